@@ -1,0 +1,128 @@
+-- Demand 3 over the rules: what is claimed of the accepted calls and of a recording of them.
+use mathlib.Core.Path.{_≡_}
+use mathlib.Core.Bool.{Bool, true, false}
+use mathlib.Core.Logic.{_⊎_}
+use mathlib.Core.List.{List, [], _∷_, _++_}
+use mathlib.Core.Option.{Option, none, some}
+use Prim.Native.Nat.{ℕ, _≤_, _<_}
+use lib.ListN.{drop}
+use Rattle.rules.specs.Zone.{isMarked, isPermanent}
+use Rattle.rules.specs.Site.{Item, message, request, Site, Call, send, receive, start, stepS, openS, waits}
+use Rattle.rules.specs.Park.{Park, Move, hand, take, emptyPark, replay, own, inside, outside, hands, takes}
+use Rattle.rules.specs.declared.Saved.{Saved}
+use Rattle.rules.specs.declared.Checkpoint.{Checkpoint}
+use Rattle.rules.specs.declared.Checkpoint.the-variants.{None, Mutable, Permanent}
+
+-- What the rules ask of a call that is accepted: the stock covers the cars; the channel holds an item; no recording has been started.
+abbrev pub May : Call → Site → Type 0
+May (send a b cars) s = cars ≤ s .zone a .stock
+May (receive a b) s = s .channel a b ≡ [] → ⊥
+May (start a) s = (z : ℕ) → isPermanent (s .zone z .checkpoint) ≡ false
+
+-- Calls made one after another, each as the rules ask.
+abbrev pub Allowed : List Call → Site → Type 0
+Allowed [] s = Unit {0}
+Allowed (c ∷ cs) s = May c s × Allowed cs (stepS c s)
+
+-- The site after calls.
+abbrev pub run : List Call → Site → Site
+run [] s = s
+run (c ∷ cs) s = run cs (stepS c s)
+
+-- What the park is fed of a call: "the accepted hand-over calls and the accepted receipt calls that take a hand-over".
+abbrev pub taking : ℕ → ℕ → List Item → List Move
+taking a b [] = []
+taking a b (message cars flag ∷ l) = take a b ∷ []
+taking a b (request set ∷ l) = []
+
+abbrev pub moveOf : Call → Site → List Move
+moveOf (send a b cars) s = hand a b cars ∷ []
+moveOf (receive a b) s = taking a b (s .channel a b)
+moveOf (start a) s = []
+
+abbrev pub moves : List Call → Site → List Move
+moves [] s = []
+moves (c ∷ cs) s = moveOf c s ++ moves cs (stepS c s)
+
+-- "complete when one was started and no line holds a request".
+abbrev pub Complete : Site → Type 0
+Complete s = ((z : ℕ) × (isPermanent (s .zone z .checkpoint) ≡ true)) × ((i j : ℕ) → waits (s .channel i j) ≡ false)
+
+-- The stocks and lines of a site, "requests and marked bits left out".
+abbrev pub carsOn : List Item → List ℕ
+carsOn [] = []
+carsOn (message cars flag ∷ l) = cars ∷ carsOn l
+carsOn (request set ∷ l) = carsOn l
+
+abbrev pub present : Site → Park
+present s = record { stock = λ k. s .zone k .stock; channel = λ i j. carsOn (s .channel i j) }
+
+-- A recording: which zones are shown firm, and the events, stocks and channels shown.
+pub record Snapshot : Type 0 where
+  pub recorded : ℕ → Bool
+  pub events : ℕ → ℕ
+  pub park : Park
+
+-- "A firm zone is shown with the stock and event number of its mark. Any other zone, a provisional one included, has its opening
+-- stock and 0 events."
+abbrev pub eventsOf : Checkpoint → ℕ
+eventsOf None = 0
+eventsOf (Mutable s) = 0
+eventsOf (Permanent s) = s .events
+
+abbrev pub stockOf : Checkpoint → ℕ → ℕ
+stockOf None opening = opening
+stockOf (Mutable s) opening = opening
+stockOf (Permanent s) opening = s .stock
+
+-- "A line shows every hand-over sent inside the sender's events and not received inside the receiver's, in the order sent."
+abbrev pub channelOf : List Move → ℕ → ℕ → List ℕ
+channelOf ms i j = drop (takes i j ms) (hands i j ms)
+
+-- The recording after the calls cs from the opening stocks v.
+abbrev pub snapshot : (ℕ → ℕ) → List Call → Snapshot
+snapshot v cs =
+    let s = run cs (openS v) in
+    let events : ℕ → ℕ = λ k. eventsOf (s .zone k .checkpoint) in
+    record {
+      recorded = λ k. isPermanent (s .zone k .checkpoint);
+      events = events;
+      park = record {
+        stock = λ k. stockOf (s .zone k .checkpoint) (v k);
+        channel = channelOf (inside events (moves cs (openS v)));
+      };
+    }
+
+-- Zone z takes its mark by a call: it has none before the call, and one after it.
+pub record Marking (v : ℕ → ℕ) (cs : List Call) (z : ℕ) : Type 0 where
+  pub before : List Call
+  pub call : Call
+  pub after : List Call
+  pub calls : cs ≡ before ++ (call ∷ after)
+  pub unmarked : isMarked (run before (openS v) .zone z .checkpoint) ≡ false
+  pub marked : isMarked (stepS call (run before (openS v)) .zone z .checkpoint) ≡ true
+
+-- Zone a starts by a call: "The starter is the zone of the accepted start."
+pub record Starting (cs : List Call) (a : ℕ) : Type 0 where
+  pub before : List Call
+  pub after : List Call
+  pub calls : cs ≡ before ++ (start a ∷ after)
+
+-- Demand 3 of the accepted calls cs from the opening stocks v, and of the recording r.
+pub record Cut (v : ℕ → ℕ) (cs : List Call) (r : Snapshot) : Type 1 where
+  -- "The inside ones are replayed from the opening"; "After the first part the park's stocks and lines equal the recorded ones."
+  pub first : replay (inside (r .events) (moves cs (openS v))) (some (emptyPark v)) ≡ some (r .park)
+  -- "then all the others from where that ended"; "After the second they equal those of the run after the list".
+  pub second : replay (outside (r .events) (moves cs (openS v))) (some (r .park)) ≡ some (present (run cs (openS v)))
+  -- "The recorded zones are the smallest set that has the starter and, with each zone, every sender of its inside receipts."
+  pub initiator : (a : ℕ) × Starting cs a
+  pub has-initiator : (a : ℕ) → Starting cs a → r .recorded a ≡ true
+  pub closed : (i j : ℕ) → r .recorded j ≡ true → 0 < takes i j (inside (r .events) (moves cs (openS v))) → r .recorded i ≡ true
+  pub least : (X : ℕ → Type 0) → ((a : ℕ) → Starting cs a → X a)
+      → ((i j : ℕ) → X j → 0 < takes i j (inside (r .events) (moves cs (openS v))) → X i)
+      → (z : ℕ) → r .recorded z ≡ true → X z
+  -- "The events shown for the starter are the number of its own events before the accepted start".
+  pub initiator-events : (a : ℕ) (s : Starting cs a) → r .events a ≡ own a (moves (s .before) (openS v))
+  -- "those for any other recorded zone the number before its mark".
+  pub marked-once : (z : ℕ) → r .recorded z ≡ true → Marking v cs z
+  pub zone-events : (z : ℕ) → r .recorded z ≡ true → (m : Marking v cs z) → r .events z ≡ own z (moves (m .before) (openS v))

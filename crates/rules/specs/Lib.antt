@@ -1,0 +1,7 @@
+pub mod Limits
+pub mod Sets
+pub mod Change
+pub mod Zone
+pub mod Site
+pub mod Park
+pub mod Cut

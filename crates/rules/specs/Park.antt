@@ -1,0 +1,102 @@
+-- The plain car park of demand 3: a stock for each zone, without upper limit, and for each ordered pair of zones a channel, a list of
+-- numbers of cars. It has no checkpoints, no requests and no full channels.
+use mathlib.Core.Bool.{Bool, true, false, _&&_, not}
+use mathlib.Core.List.{List, [], _∷_, tail}
+use mathlib.Core.Option.{Option, none, some}
+use Prim.Native.Nat.{ℕ, suc, _+_, _-_}
+use lib.Dec.{eqb, leb, ltb}
+use Rattle.rules.specs.Change.{on, join, cons-if}
+
+pub record Park : Type 0 where
+  pub stock : ℕ → ℕ
+  pub channel : ℕ → ℕ → List ℕ
+
+-- What the park is fed: hand-overs, and receipts of them.
+pub data Move : Type 0 where
+  hand : (from to cars : ℕ) → Move
+  take : (from to : ℕ) → Move
+
+-- "It starts with the opening stocks and empty lines."
+abbrev pub emptyPark : (ℕ → ℕ) → Park
+emptyPark stocks = record { stock = stocks; channel = λ i j. [] }
+
+-- "that stock falls by c and c joins the end of line A to B".
+abbrev pub handed : ℕ → ℕ → ℕ → Park → Park
+handed a b c p = record {
+  stock = λ k. on (eqb k a) (λ v. v - c) (p .stock k);
+  channel = λ i j. on (eqb i a && eqb j b) (join c) (p .channel i j);
+}
+
+-- "its first number leaves it and B's stock rises by that number".
+abbrev pub taken : ℕ → ℕ → ℕ → Park → Park
+taken a b c p = record {
+  stock = λ k. on (eqb k b) (λ v. v + c) (p .stock k);
+  channel = λ i j. on (eqb i a && eqb j b) tail (p .channel i j);
+}
+
+-- "refused if A's stock is below c".
+abbrev pub handIf : Bool → ℕ → ℕ → ℕ → Park → Option Park
+handIf true a b c p = some (handed a b c p)
+handIf false a b c p = none
+
+-- "refused if that line is empty".
+abbrev pub takeIf : List ℕ → ℕ → ℕ → Park → Option Park
+takeIf [] a b p = none
+takeIf (c ∷ l) a b p = some (taken a b c p)
+
+-- One step; none: refused.
+abbrev pub step : Move → Park → Option Park
+step (hand a b c) p = handIf (leb c (p .stock a)) a b c p
+step (take a b) p = takeIf (p .channel a b) a b p
+
+abbrev pub stepIf : Move → Option Park → Option Park
+stepIf m none = none
+stepIf m (some p) = step m p
+
+-- The moves in order; none: some step was refused.
+abbrev pub replay : List Move → Option Park → Option Park
+replay [] p = p
+replay (m ∷ ms) p = replay ms (stepIf m p)
+
+-- Whose own event a move is: "a hand-over for its sender, a receipt for its receiver".
+abbrev pub owner : Move → ℕ
+owner (hand a b c) = a
+owner (take a b) = b
+
+-- The number of own events of a zone.
+abbrev pub own : ℕ → List Move → ℕ
+own z [] = 0
+own z (m ∷ ms) = on (eqb z (owner m)) suc (own z ms)
+
+-- "Each zone's own events are counted in the list's order": n k events of zone k stand before the list. "One is inside the recording
+-- if its count is at most the events shown for that zone."
+abbrev pub isInside : (ℕ → ℕ) → (ℕ → ℕ) → Move → Bool
+isInside shown n m = ltb (n (owner m)) (shown (owner m))
+
+abbrev pub counted : (ℕ → ℕ) → Move → ℕ → ℕ
+counted n m k = on (eqb k (owner m)) suc (n k)
+
+abbrev pub insideFrom : (ℕ → ℕ) → (ℕ → ℕ) → List Move → List Move
+insideFrom shown n [] = []
+insideFrom shown n (m ∷ ms) = cons-if (isInside shown n m) m (insideFrom shown (counted n m) ms)
+
+abbrev pub outsideFrom : (ℕ → ℕ) → (ℕ → ℕ) → List Move → List Move
+outsideFrom shown n [] = []
+outsideFrom shown n (m ∷ ms) = cons-if (not (isInside shown n m)) m (outsideFrom shown (counted n m) ms)
+
+abbrev pub inside : (ℕ → ℕ) → List Move → List Move
+inside shown ms = insideFrom shown (λ k. 0) ms
+
+abbrev pub outside : (ℕ → ℕ) → List Move → List Move
+outside shown ms = outsideFrom shown (λ k. 0) ms
+
+-- The cars handed over from i to j, in order, and the number of receipts by j from i.
+abbrev pub hands : ℕ → ℕ → List Move → List ℕ
+hands i j [] = []
+hands i j (hand a b c ∷ ms) = cons-if (eqb i a && eqb j b) c (hands i j ms)
+hands i j (take a b ∷ ms) = hands i j ms
+
+abbrev pub takes : ℕ → ℕ → List Move → ℕ
+takes i j [] = 0
+takes i j (hand a b c ∷ ms) = takes i j ms
+takes i j (take a b ∷ ms) = on (eqb i a && eqb j b) suc (takes i j ms)

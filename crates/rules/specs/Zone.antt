@@ -1,0 +1,93 @@
+-- The rules of one zone: document 01, "Zones, lines and marks". Zones are named by index: the number less one.
+use mathlib.Core.Bool.{Bool, true, false, cond}
+use Prim.Native.Nat.{ℕ, _+_, _-_}
+use lib.Dec.{eqb}
+use Rattle.rules.specs.Sets.{nobody, only, union, difference}
+use Rattle.rules.specs.declared.Local.{Local}
+use Rattle.rules.specs.declared.Saved.{Saved}
+use Rattle.rules.specs.declared.Checkpoint.{Checkpoint}
+use Rattle.rules.specs.declared.Checkpoint.the-variants.{None, Mutable, Permanent}
+
+-- Has the zone a checkpoint of either kind ("either mark")?
+abbrev pub isMarked : Checkpoint → Bool
+isMarked None = false
+isMarked (Mutable s) = true
+isMarked (Permanent s) = true
+
+-- Is the checkpoint permanent ("firm")?
+abbrev pub isPermanent : Checkpoint → Bool
+isPermanent None = false
+isPermanent (Mutable s) = false
+isPermanent (Permanent s) = true
+
+-- At first: a stock, a dependency set ("heard set") of itself alone, no own events, no checkpoint.
+abbrev pub opened : ℕ → ℕ → Local
+opened me stock = record { stock = stock; deps = only me; events = 0; checkpoint = None }
+
+-- What a message ("hand-over") of so many cars adds to the own events of the zone that sends or receives it: one, whatever the
+-- number. "A hand-over of 0 cars is treated as any other"; starts and requests add nothing.
+abbrev pub ownEvents : ℕ → ℕ
+ownEvents cars = 1
+
+-- "A mark keeps the stock and the number of own events at that moment."
+abbrev pub saved : Local → Saved
+saved z = record { stock = z .stock; events = z .events }
+
+-- Hand-over, the sender's side: "the sender's stock falls by the cars".
+abbrev pub sent : ℕ → Local → Local
+sent cars z = record {
+  stock = z .stock - cars;
+  deps = z .deps;
+  events = z .events + ownEvents cars;
+  checkpoint = z .checkpoint;
+}
+
+-- The dependency set after a message with this flag ("marked bit") from a zone: "with no mark and bit 0, the sender joins the heard
+-- set"; "Once marked, a zone's heard set never changes".
+abbrev pub depsAfter : Checkpoint → ℕ → ℕ → Bool → ℕ
+depsAfter None deps from false = union deps (only from)
+depsAfter None deps from true = deps
+depsAfter (Mutable s) deps from flag = deps
+depsAfter (Permanent s) deps from flag = deps
+
+-- The checkpoint after a message with this flag: "with no mark and bit 1, the zone takes a provisional mark".
+abbrev pub checkpointAfter : Checkpoint → Saved → Bool → Checkpoint
+checkpointAfter None now false = None
+checkpointAfter None now true = Mutable now
+checkpointAfter (Mutable s) now flag = Mutable s
+checkpointAfter (Permanent s) now flag = Permanent s
+
+-- Receipt of a hand-over: "the receiver's stock rises. Before that:" the dependency set or the checkpoint.
+abbrev pub received : ℕ → ℕ → Bool → Local → Local
+received from cars flag z = record {
+  stock = z .stock + cars;
+  deps = depsAfter (z .checkpoint) (z .deps) from flag;
+  events = z .events + ownEvents cars;
+  checkpoint = checkpointAfter (z .checkpoint) (saved z) flag;
+}
+
+-- The zone with another checkpoint.
+abbrev pub withCheckpoint : Checkpoint → Local → Local
+withCheckpoint mark z = record { stock = z .stock; deps = z .deps; events = z .events; checkpoint = mark }
+
+-- Start: "the zone takes a firm mark".
+abbrev pub started : Local → Local
+started z = withCheckpoint (Permanent (saved z)) z
+
+-- Receipt of a request: "A provisional mark turns firm, keeping its stock and event number. An unmarked zone takes a firm mark."
+abbrev pub madePermanent : Checkpoint → Saved → Checkpoint
+madePermanent None now = Permanent now
+madePermanent (Mutable s) now = Permanent s
+madePermanent (Permanent s) now = Permanent s
+
+abbrev pub requested : Local → Local
+requested z = withCheckpoint (madePermanent (z .checkpoint) (saved z)) z
+
+-- "In these two cases the zone sends a request to every zone of its heard set, other than itself, that is not in the received set".
+-- A start asks as a zone that received the set of nobody: "each other zone of that set".
+abbrev pub asked : ℕ → ℕ → Local → ℕ
+asked me set z = difference (z .deps) (union set (only me))
+
+-- "each carries the union of both sets".
+abbrev pub carried : ℕ → Local → ℕ
+carried set z = union (z .deps) set
