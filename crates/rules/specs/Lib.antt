@@ -1,4 +1,5 @@
 pub mod Limits
+pub mod Questions
 pub mod Sets
 pub mod Change
 pub mod Zone

@@ -3,7 +3,7 @@
 use mathlib.Core.Bool.{Bool, true, false, _&&_, not}
 use mathlib.Core.List.{List, [], _∷_, tail}
 use mathlib.Core.Option.{Option, none, some}
-use Prim.Native.Nat.{ℕ, suc, _+_, _-_}
+use Prim.Native.Nat.{ℕ, zero, suc, _+_, _-_, _<_}
 use lib.Dec.{eqb, leb, ltb}
 use Rattle.rules.specs.Change.{on, join, cons-if}
 
@@ -100,3 +100,20 @@ abbrev pub takes : ℕ → ℕ → List Move → ℕ
 takes i j [] = 0
 takes i j (hand a b c ∷ ms) = takes i j ms
 takes i j (take a b ∷ ms) = on (eqb i a && eqb j b) suc (takes i j ms)
+
+-- All the cars of a park of n zones: the stocks, and the cars on the channels.
+abbrev pub sum : List ℕ → ℕ
+sum [] = 0
+sum (c ∷ l) = c + sum l
+
+abbrev pub sumBelow : ℕ → (ℕ → ℕ) → ℕ
+sumBelow zero f = 0
+sumBelow (suc n) f = sumBelow n f + f n
+
+abbrev pub total : ℕ → Park → ℕ
+total n p = sumBelow n (p .stock) + sumBelow n (λ i. sumBelow n (λ j. sum (p .channel i j)))
+
+-- A move between zones of a park of n zones.
+abbrev pub Within : ℕ → Move → Type 0
+Within n (hand a b c) = (a < n) × (b < n)
+Within n (take a b) = (a < n) × (b < n)

@@ -1,0 +1,101 @@
+// The channels ("lines") of a site: 64 of 16 places, each first in first out. Items are words; the places behind a channel's last item
+// hold 0, so that equal contents are equal values. Callers name a channel by its place, which they know to be below 64.
+ghost use mathlib.Core.Path.{_≡_};
+ghost use mathlib.Core.List.{List};
+ghost use Prim.Native.Nat.{ℕ, _<_};
+ghost use lib.ListN.{getD};
+ghost use Rattle.channel.specs.Channels.{
+  channelsAs,
+  pushed,
+  popped,
+  firstOf,
+  firstFull,
+  requestedAll,
+};
+
+pub struct Channels {
+    pub items: [u16; 1024],
+    pub lens: [u8; 64],
+}
+
+// The place of the channel from one zone to another, both by index.
+pub fn place(from: usize, to: usize) -> usize
+    requires { ⌜ (from < 8) × (to < 8) ⌝ }
+    ensures { λ k. ⌜ (k ≡ Rattle.channel.specs.Channels.place from to) × (k < 64) ⌝ }
+{
+    from * 8 + to
+}
+
+// One item more at the end of a channel; a full channel stays as it is.
+pub fn push(items: &mut [u16; 1024], lens: &mut [u8; 64], k: usize, word: u16)
+    requires { ⌜ k < 64 ⌝ }
+    ensures { λ r. ⌜
+        channelsAs (now (items .exit)) (now (lens .exit)) ≡ pushed (channelsAs (now (items .entry)) (now (lens .entry))) k word
+        ⌝ }
+{
+    let n = lens[k];
+    if 16 <= n {
+        return;
+    }
+    items[k * 16 + n as usize] = word;
+    lens[k] = n + 1;
+}
+
+// The first item leaves a channel that holds one.
+pub fn pop(items: &mut [u16; 1024], lens: &mut [u8; 64], k: usize) -> u16
+    requires { ⌜ (k < 64) × (0 < getD (now lens) k 0) ⌝ }
+    ensures { λ r. ⌜
+        (r ≡ firstOf (channelsAs (now (items .entry)) (now (lens .entry))) k)
+        × (channelsAs (now (items .exit)) (now (lens .exit)) ≡ popped (channelsAs (now (items .entry)) (now (lens .entry))) k)
+        ⌝ }
+{
+    let at = k * 16;
+    let last = at + 15;
+    let first = items[at];
+    for i in 0..15 {
+        items[at + i] = items[at + i + 1];
+    }
+    items[last] = 0;
+    lens[k] = lens[k] - 1;
+    first
+}
+
+// The number of the lowest zone of a set whose channel is full; 0 where all have a free place.
+pub fn first_full(lens: &[u8; 64], from: usize, to: u8) -> u8
+    requires { ⌜ from < 8 ⌝ }
+    ensures { λ r. ⌜
+        ((items : List ℕ) → r ≡ firstFull (channelsAs items (now (lens .entry))) from to)
+        ⌝ }
+{
+    let mut rest = to;
+    while rest != 0 {
+        let j = u8::trailing_zeros(rest) as usize;
+        let k = place(from, j);
+        if 16 <= lens[k] {
+            return j as u8 + 1;
+        }
+        rest = rest & (rest - 1);
+    }
+    0
+}
+
+// A request, carrying a set, on the channel to each zone of another set: as many as that set has ones, the next one to the zone that
+// its trailing zeros name.
+pub fn request_all(items: &mut [u16; 1024], lens: &mut [u8; 64], from: usize, to: u8, set: u8)
+    requires { ⌜ from < 8 ⌝ }
+    ensures { λ r. ⌜
+        channelsAs (now (items .exit)) (now (lens .exit))
+        ≡ requestedAll (channelsAs (now (items .entry)) (now (lens .entry))) from to set
+        ⌝ }
+{
+    let word = 512 + set as u16;
+    let mut rest = to;
+    let mut left = u8::count_ones(to);
+    while left != 0 {
+        let j = u8::trailing_zeros(rest) as usize;
+        let at = place(from, j);
+        push(items, lens, at, word);
+        rest = rest & (rest - 1);
+        left -= 1;
+    }
+}

@@ -1,0 +1,185 @@
+// The steps of one zone's local state, without questions: what the zone part and the site engine both run. Each is the rule of the
+// same name in the rules' specs/Zone.antt. Zones are named by index: the number less one.
+ghost use mathlib.Core.Path.{_≡_};
+ghost use Prim.Native.Nat.{_+_, _<_, _≤_};
+ghost use Rattle.rules.specs.Zone.{isMarked, isPermanent, opened, sent, depsAfter, checkpointAfter, received, withCheckpoint};
+ghost use Rattle.rules.specs.declared.Checkpoint.the-variants.{Permanent};
+ghost use Rattle.rules.specs.Sets.{only};
+ghost use Rattle.local.specs.Asked.{requestedBy, startedBy, turned};
+use rules::Checkpoint;
+use rules::Local;
+use rules::Saved;
+
+// A local state, the set of zones to be sent a request, and the set that each request carries; both empty when none is sent.
+pub struct Asked {
+    pub local: Local,
+    pub to: u8,
+    pub carried: u8,
+}
+
+// Whether there is a checkpoint of either kind.
+pub fn is_marked(mark: Checkpoint) -> bool
+    ensures { λ r. ⌜ r ≡ isMarked mark ⌝ }
+{
+    match mark {
+        Checkpoint::None => false,
+        Checkpoint::Mutable(_) => true,
+        Checkpoint::Permanent(_) => true,
+    }
+}
+
+// Whether there is a permanent checkpoint.
+pub fn is_permanent(mark: Checkpoint) -> bool
+    ensures { λ r. ⌜ r ≡ isPermanent mark ⌝ }
+{
+    match mark {
+        Checkpoint::None => false,
+        Checkpoint::Mutable(_) => false,
+        Checkpoint::Permanent(_) => true,
+    }
+}
+
+// The set of the zone at an index alone.
+fn bit(index: u8) -> u8
+    requires { ⌜ index < 8 ⌝ }
+    ensures { λ r. ⌜ r ≡ only index ⌝ }
+{
+    1u8 << index
+}
+
+// A zone at first. The index is below 8, as a set of zones has 8 bits.
+pub fn open(me: u8, stock: u16) -> Local
+    requires { ⌜ me < 8 ⌝ }
+    ensures { λ r. ⌜ r ≡ opened me stock ⌝ }
+{
+    Local {
+        stock,
+        deps: bit(me),
+        events: 0,
+        checkpoint: Checkpoint::None,
+    }
+}
+
+// The sender's side of a message. The caller has asked whether the stock covers the cars and counts own events up to 1,000.
+pub fn send(mut z: Local, cars: u8) -> Local
+    requires { ⌜ (cars ≤ z .stock) × (z .events < 1000) ⌝ }
+    ensures { λ r. ⌜ r ≡ sent cars z ⌝ }
+{
+    z.stock = z.stock - cars as u16;
+    z.events = z.events + 1;
+    z
+}
+
+// The dependency set after a message with this flag from a zone.
+fn deps_after(mark: Checkpoint, deps: u8, from: u8, flag: bool) -> u8
+    requires { ⌜ from < 8 ⌝ }
+    ensures { λ r. ⌜ r ≡ depsAfter mark deps from flag ⌝ }
+{
+    match mark {
+        Checkpoint::None => { if flag { deps } else { deps | bit(from) } }
+        Checkpoint::Mutable(_) => deps,
+        Checkpoint::Permanent(_) => deps,
+    }
+}
+
+// The checkpoint after a message with this flag.
+fn checkpoint_after(mark: Checkpoint, now: Saved, flag: bool) -> Checkpoint
+    ensures { λ r. ⌜ r ≡ checkpointAfter mark now flag ⌝ }
+{
+    match mark {
+        Checkpoint::None => { if flag { Checkpoint::Mutable(now) } else { mark } }
+        Checkpoint::Mutable(_) => mark,
+        Checkpoint::Permanent(_) => mark,
+    }
+}
+
+// The receiver's side of a message. The caller knows that the stock stays within 16 bits and counts own events up to 1,000.
+pub fn receive(z: Local, from: u8, cars: u8, flag: bool) -> Local
+    requires { ⌜ (from < 8) × (z .stock + cars ≤ 65535) × (z .events < 1000) ⌝ }
+    ensures { λ r. ⌜ r ≡ received from cars flag z ⌝ }
+{
+    let stock = z.stock + cars as u16;
+    let events = z.events + 1;
+    let mark = z.checkpoint;
+    let deps = deps_after(mark, z.deps, from, flag);
+    let checkpoint = checkpoint_after(
+        mark,
+        Saved {
+            stock: z.stock,
+            events: z.events,
+        },
+        flag,
+    );
+    Local {
+        stock,
+        deps,
+        events,
+        checkpoint,
+    }
+}
+
+// The state with a permanent checkpoint that keeps these values.
+fn permanent(z: Local, kept: Saved) -> Local
+    ensures { λ r. ⌜ r ≡ withCheckpoint (Permanent kept) z ⌝ }
+{
+    Local {
+        stock: z.stock,
+        deps: z.deps,
+        events: z.events,
+        checkpoint: Checkpoint::Permanent(kept),
+    }
+}
+
+// The state with a permanent checkpoint, and the requests that it sends after a set was received.
+fn turn(z: Local, kept: Saved, me: u8, set: u8) -> Asked
+    requires { ⌜ me < 8 ⌝ }
+    ensures { λ r. ⌜ r ≡ turned kept me set z ⌝ }
+{
+    let local = permanent(z, kept);
+    let to = z.deps ^ (z.deps & (set | bit(me)));
+    if to == 0 {
+        return Asked {
+            local,
+            to: 0,
+            carried: 0,
+        };
+    }
+    Asked {
+        local,
+        to,
+        carried: z.deps | set,
+    }
+}
+
+// Receipt of a request.
+pub fn request(z: Local, me: u8, set: u8) -> Asked
+    requires { ⌜ me < 8 ⌝ }
+    ensures { λ r. ⌜ r ≡ requestedBy me set z ⌝ }
+{
+    let now = Saved {
+        stock: z.stock,
+        events: z.events,
+    };
+    let mark = z.checkpoint;
+    match mark {
+        Checkpoint::None => turn(z, now, me, set),
+        Checkpoint::Mutable(kept) => turn(z, kept, me, set),
+        Checkpoint::Permanent(_) => Asked {
+            local: z,
+            to: 0,
+            carried: 0,
+        },
+    }
+}
+
+// Start: a permanent checkpoint of this moment, whatever stood before.
+pub fn start(z: Local, me: u8) -> Asked
+    requires { ⌜ me < 8 ⌝ }
+    ensures { λ r. ⌜ r ≡ startedBy me z ⌝ }
+{
+    let now = Saved {
+        stock: z.stock,
+        events: z.events,
+    };
+    turn(z, now, me, 0)
+}

@@ -1,0 +1,28 @@
+// The questions that several parts ask, over numbers alone.
+ghost use mathlib.Core.Path.{_≡_};
+ghost use Rattle.rules.specs.Questions.{isCount, isOn};
+ghost use Rattle.rules.specs.Sets.{within};
+
+// Question 2: whether a site has so many zones.
+pub fn is_count(count: u8) -> bool
+    ensures { λ r. ⌜ r ≡ isCount count ⌝ }
+{
+    (2 <= count) & (count <= 8)
+}
+
+// Question 5, of one named zone: whether it is on a site of `count` zones.
+pub fn is_on(count: u8, zone: u8) -> bool
+    ensures { λ r. ⌜ r ≡ isOn count zone ⌝ }
+{
+    (1 <= zone) & (zone <= count)
+}
+
+// Whether a set names only zones of a site of `count` zones.
+pub fn is_within(set: u8, count: u8) -> bool
+    ensures { λ r. ⌜ r ≡ within set count ⌝ }
+{
+    if 8 <= count {
+        return true;
+    }
+    set >> count == 0
+}

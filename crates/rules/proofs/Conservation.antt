@@ -1,0 +1,211 @@
+-- A replay that is not refused keeps the number of cars, so the recorded park and the present one have as many cars as the opening.
+-- Assumes nothing.
+use mathlib.Core.Path.{_≡_, refl, sym, _∙_, ap}
+use mathlib.Core.Bool.{Bool, true, false, _&&_, true≢false, false≢true}
+use mathlib.Core.Logic.{_≢_, inl, inr}
+use mathlib.Core.List.{List, [], _∷_, _++_, tail}
+use mathlib.Core.Option.{Option, none, some}
+use Prim.Native.Nat.{ℕ, zero, suc, _+_, _-_, _≤_, _<_}
+use native.Mathlib.Omega.{arith}
+use lib.Dec.{eqb, leb}
+use borrow.Author.Tests.{leb-true, ne-eqb}
+use Rattle.rules.specs.Change.{join, cons-if}
+use Rattle.rules.specs.Site.{Item, message, request, Site, Call, send, receive, start, stepS, openS}
+use Rattle.rules.specs.Park.{Park, Move, hand, take, emptyPark, handed, taken, handIf, takeIf, step, replay, isInside, counted, insideFrom, inside, sum, sumBelow, total, Within}
+use Rattle.rules.specs.Cut.{Allowed, run, taking, moveOf, moves, Complete, present, snapshot}
+use Rattle.rules.proofs.Tests.{Same, same?, eqb-refl, other-receiver}
+use Rattle.rules.proofs.Guarded.{on-true, on-false}
+use Rattle.rules.proofs.Lists.{All, keep}
+use Rattle.rules.proofs.Tagged.{Event, TaggedPark, Steps}
+use Rattle.rules.proofs.Untagged.{plain, plain-steps}
+use Rattle.rules.proofs.History.{History, openH, history, movesOf, now-run, moves-open}
+use Rattle.rules.proofs.Kept.{fresh-open, calls-keep}
+use Rattle.rules.proofs.Cutting.{parkOf, plain-park, emptyT, inFirst, inSecond, cuts-kept, cuts-open}
+use Rattle.rules.proofs.Consistency.{consistent}
+
+sum-same : (n : ℕ) (f g : ℕ → ℕ) → ((k : ℕ) → k < n → f k ≡ g k) → sumBelow n f ≡ sumBelow n g
+sum-same zero f g e = refl
+sum-same (suc n) f g e =
+    let q = sum-same n f g (λ k h. e k (omega arith)) in
+    let w = e n (omega arith) in
+    omega arith
+
+-- Two sums that differ at a alone.
+sum-change : (n : ℕ) (f g : ℕ → ℕ) (a : ℕ) → a < n → ((k : ℕ) → k ≢ a → f k ≡ g k) → sumBelow n f + g a ≡ sumBelow n g + f a
+sum-change zero f g a h e = absurd (omega arith)
+sum-change (suc n) f g a h e = go (same? n a) (sum-change n f g a)
+  where
+    go : Same n a → (a < n → ((k : ℕ) → k ≢ a → f k ≡ g k) → sumBelow n f + g a ≡ sumBelow n g + f a)
+        → sumBelow n f + f n + g a ≡ sumBelow n g + g n + f a
+    go (inl q) ih =
+        let w = sum-same n f g (λ k l. e k (λ r. omega (arith, q .0))) in
+        let u : f n ≡ f a = ap f (q .0) in
+        let v : g n ≡ g a = ap g (q .0) in
+        omega arith
+    go (inr q) ih =
+        let l : n ≡ a → ⊥ = q .0 in
+        let w = ih (omega arith) e in
+        let u = e n (q .0) in
+        omega arith
+
+-- Two double sums that differ at the channel from a to b alone.
+sums : ℕ → (ℕ → ℕ → ℕ) → ℕ
+sums n f = sumBelow n (λ i. sumBelow n (f i))
+
+sums-change : (n : ℕ) (f g : ℕ → ℕ → ℕ) (a b : ℕ) → a < n → b < n → ((i j : ℕ) → eqb i a && eqb j b ≡ false → f i j ≡ g i j)
+    → sums n f + g a b ≡ sums n g + f a b
+unfolding sums
+sums-change n f g a b ha hb e =
+    let q = sum-change n (f a) (g a) b hb (λ j ne. e a j (other-receiver a b a j ne)) in
+    let w = sum-change n (λ i. sumBelow n (f i)) (λ i. sumBelow n (g i)) a ha
+    (λ i ne. sum-same n (f i) (g i) (λ j _. e i j (ap (λ (t : Bool). t && eqb j b) (ne-eqb i a ne)))) in
+    omega arith
+
+sum-join : (l : List ℕ) (c : ℕ) → sum (join c l) ≡ sum l + c
+sum-join [] c = omega arith
+sum-join (x ∷ l) c = let q = sum-join l c in omega arith
+
+abbrev cars : Park → ℕ → ℕ → ℕ
+cars p i j = sum (p .channel i j)
+
+handed-total : (n a b c : ℕ) (p : Park) → a < n → b < n → c ≤ p .stock a → total n (handed a b c p) ≡ total n p
+unfolding sums
+handed-total n a b c p ha hb le =
+    let s = sum-change n ((handed a b c p) .stock) (p .stock) a ha
+    (λ k ne. on-false (eqb k a) (λ v. v - c) (p .stock k) (ne-eqb k a ne)) in
+    let s′ : (handed a b c p) .stock a ≡ p .stock a - c = on-true (eqb a a) (λ v. v - c) (p .stock a) (eqb-refl a) in
+    let t = sums-change n (cars (handed a b c p)) (cars p) a b ha hb
+    (λ i j e. ap sum (on-false (eqb i a && eqb j b) (join c) (p .channel i j) e)) in
+    let t′ : cars (handed a b c p) a b ≡ cars p a b + c
+    = ap sum (on-true (eqb a a && eqb b b) (join c) (p .channel a b) (rw (eqb-refl a, eqb-refl b))) ∙ sum-join (p .channel a b) c in
+    omega arith
+
+taken-total : (n a b c : ℕ) (l : List ℕ) (p : Park) → a < n → b < n → p .channel a b ≡ c ∷ l → total n (taken a b c p) ≡ total n p
+unfolding sums
+taken-total n a b c l p ha hb at =
+    let s = sum-change n ((taken a b c p) .stock) (p .stock) b hb
+    (λ k ne. on-false (eqb k b) (λ v. v + c) (p .stock k) (ne-eqb k b ne)) in
+    let s′ : (taken a b c p) .stock b ≡ p .stock b + c = on-true (eqb b b) (λ v. v + c) (p .stock b) (eqb-refl b) in
+    let t = sums-change n (cars (taken a b c p)) (cars p) a b ha hb
+    (λ i j e. ap sum (on-false (eqb i a && eqb j b) tail (p .channel i j) e)) in
+    let t′ : cars (taken a b c p) a b ≡ sum l
+    = ap sum (on-true (eqb a a && eqb b b) tail (p .channel a b) (rw (eqb-refl a, eqb-refl b)) ∙ ap tail at) in
+    let u : cars p a b ≡ c + sum l = ap sum at in
+    omega arith
+
+none≢some : {p : Park} → _≡_ {A = Option Park} none (some p) → ⊥
+none≢some e = let z : _≡_ {A = Bool} true false = cc in true≢false z
+
+step-total : (n : ℕ) (m : Move) (p q : Park) → Within n m → step m p ≡ some q → total n q ≡ total n p
+step-total n (hand a b c) p q w e = go (leb c (p .stock a)) refl e
+  where
+    go : (t : Bool) → leb c (p .stock a) ≡ t → handIf t a b c p ≡ some q → total n q ≡ total n p
+    go true le e =
+        let i : handed a b c p ≡ q = cc in
+        ap (total n) (sym i) ∙ handed-total n a b c p (w .0) (w .1) (leb-true c (p .stock a) le)
+    go false le e = absurd (none≢some e)
+step-total n (take a b) p q w e = go (p .channel a b) refl e
+  where
+    go : (l : List ℕ) → p .channel a b ≡ l → takeIf l a b p ≡ some q → total n q ≡ total n p
+    go [] at e = absurd (none≢some e)
+    go (c ∷ l) at e =
+        let i : taken a b c p ≡ q = cc in
+        ap (total n) (sym i) ∙ taken-total n a b c l p (w .0) (w .1) at
+
+replay-none : (ms : List Move) → replay ms none ≡ none
+replay-none [] = refl
+replay-none (m ∷ ms) = replay-none ms
+
+-- A replay that is not refused, of moves between zones of the park, keeps the number of cars.
+pub conserved : (n : ℕ) (ms : List Move) (p q : Park) → All (Within n) ms → replay ms (some p) ≡ some q → total n q ≡ total n p
+conserved n [] p q w e = let i : p ≡ q = cc in ap (total n) (sym i)
+conserved n (m ∷ ms) p q w e = go (step m p) refl e (λ r. conserved n ms r q (w .1))
+  where
+    go : (o : Option Park) → step m p ≡ o → replay ms o ≡ some q
+        → ((r : Park) → replay ms (some r) ≡ some q → total n q ≡ total n r) → total n q ≡ total n p
+    go none s e ih = absurd (none≢some (sym (replay-none ms) ∙ e))
+    go (some r) s e ih = ih r e ∙ step-total n m p r (w .0) s
+
+-- The cars of the opening.
+open-total : (n : ℕ) (v : ℕ → ℕ) → total n (emptyPark v) ≡ sumBelow n v
+open-total n v = let q = zeros n (λ i. sumBelow n (λ j. 0)) (λ i. zeros n (λ j. 0) (λ j. refl)) in omega arith
+  where
+    zeros : (n : ℕ) (f : ℕ → ℕ) → ((k : ℕ) → f k ≡ 0) → sumBelow n f ≡ 0
+    zeros zero f e = refl
+    zeros (suc n) f e = let q = zeros n f e in let w = e n in omega arith
+
+-- The moves inside a recording are moves.
+all-cons-if : (P : Move → Type 0) (p : Bool) (m : Move) (ms : List Move) → P m → All P ms → All P (cons-if p m ms)
+all-cons-if P true m ms h hs = (h, hs)
+all-cons-if P false m ms h hs = hs
+
+all-inside : (P : Move → Type 0) (shown n : ℕ → ℕ) (ms : List Move) → All P ms → All P (insideFrom shown n ms)
+all-inside P shown n [] h = tt
+all-inside P shown n (m ∷ ms) h = all-cons-if P (isInside shown n m) m _ (h .0) (all-inside P shown (counted n m) ms (h .1))
+
+-- A call between zones of a site of n zones.
+abbrev pub Between : ℕ → Call → Type 0
+Between n (send a b c) = (a < n) × (b < n)
+Between n (receive a b) = (a < n) × (b < n)
+Between n (start a) = a < n
+
+all-append : (P : Move → Type 0) (xs ys : List Move) → All P xs → All P ys → All P (xs ++ ys)
+all-append P [] ys h k = k
+all-append P (x ∷ xs) ys h k = (h .0, all-append P xs ys (h .1) k)
+
+moves-within : (n : ℕ) (cs : List Call) (s : Site) → All (Between n) cs → All (Within n) (moves cs s)
+moves-within n [] s h = tt
+moves-within n (c ∷ cs) s h = all-append (Within n) (moveOf c s) (moves cs (stepS c s)) (one c (h .0))
+    (moves-within n cs (stepS c s) (h .1))
+  where
+    taken-within : (a b : ℕ) (l : List Item) → (a < n) × (b < n) → All (Within n) (taking a b l)
+    taken-within a b [] w = tt
+    taken-within a b (message c flag ∷ l) w = (w, tt)
+    taken-within a b (request set ∷ l) w = tt
+
+    one : (c : Call) → Between n c → All (Within n) (moveOf c s)
+    one (send a b c) w = (w, tt)
+    one (receive a b) w = taken-within a b (s .channel a b) w
+    one (start a) w = tt
+
+-- The park takes all moves of allowed calls, in their own order too, and ends as the site is.
+none-first : (es : List Event) → keep (inFirst (λ z. false)) es ≡ []
+none-first [] = refl
+none-first (e ∷ es) = none-first es
+
+all-second : (es : List Event) → keep (inSecond (λ z. false)) es ≡ es
+all-second [] = refl
+all-second (e ∷ es) = ap (λ l. e ∷ l) (all-second es)
+
+pub replayed : (v : ℕ → ℕ) (cs : List Call) → Allowed cs (openS v)
+    → replay (moves cs (openS v)) (some (emptyPark v)) ≡ some (present (run cs (openS v)))
+replayed v cs allowed =
+    let cuts = (calls-keep _ (cuts-kept v) cs (openH v) (fresh-open v) allowed (cuts-open v)) .1 in
+    let r = cuts (λ z. false) (λ j i f _. absurd (false≢true f)) in
+    let opens : emptyT v ≡ r .middle = rw (none-first (h .log)) at (r .first) in
+    let steps : Steps (h .log) (r .middle) (parkOf h) = rw (all-second (h .log)) at (r .second) in
+    ap (λ (ms : List Move). replay ms (some (emptyPark v))) (sym (moves-open v cs))
+    ∙ ap (λ (S : TaggedPark). replay (movesOf h) (some (plain S))) opens
+    ∙ plain-steps (h .log) (r .middle) (parkOf h) steps
+    ∙ ap some (plain-park h ∙ ap present (now-run cs (openH v)))
+  where
+    h : History
+    h = history cs (openH v)
+
+-- So the present park has the cars of the opening.
+pub present-total : (n : ℕ) (v : ℕ → ℕ) (cs : List Call) → All (Between n) cs → Allowed cs (openS v)
+    → total n (present (run cs (openS v))) ≡ sumBelow n v
+present-total n v cs zones allowed =
+    conserved n (moves cs (openS v)) (emptyPark v) (present (run cs (openS v))) (moves-within n cs (openS v) zones)
+    (replayed v cs allowed)
+    ∙ open-total n v
+
+-- And so has the recorded park.
+pub recorded-total : (n : ℕ) (v : ℕ → ℕ) (cs : List Call) → All (Between n) cs → Allowed cs (openS v) → Complete (run cs (openS v))
+    → total n ((snapshot v cs) .park) ≡ sumBelow n v
+recorded-total n v cs zones allowed complete =
+    let shown = (snapshot v cs) .events in
+    conserved n (inside shown (moves cs (openS v))) (emptyPark v) ((snapshot v cs) .park)
+    (all-inside (Within n) shown (λ k. 0) (moves cs (openS v)) (moves-within n cs (openS v) zones))
+    ((consistent v cs allowed complete) .first)
+    ∙ open-total n v

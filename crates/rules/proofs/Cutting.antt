@@ -1,0 +1,356 @@
+-- The log of a history, cut in two: first the events before their checkpoints of the zones of a set F, then all others. Both parts
+-- can be replayed, for every F closed under dependencies. Assumes nothing.
+use mathlib.Core.Path.{_≡_, refl, sym, _∙_, ap, subst}
+use mathlib.Core.Bool.{Bool, true, false, _&&_, _||_, not, false≢true, true≢false}
+use mathlib.Core.Logic.{_≢_}
+use mathlib.Core.List.{List, [], _∷_, append-nil, map, tail}
+use Prim.Native.Nat.{ℕ, _+_, _-_, _≤_}
+use lib.Dec.{eqb}
+use borrow.Author.Tests.{eqb-true, not-true}
+use Rattle.rules.specs.Change.{on, join}
+use Rattle.rules.specs.Sets.{has, nobody}
+use Rattle.rules.specs.Zone.{isMarked, saved, sent, received, checkpointAfter, requested, madePermanent, asked, carried, opened}
+use Rattle.rules.specs.Site.{Item, message, request}
+use Rattle.rules.specs.Cut.{carsOn, present}
+use Rattle.rules.specs.declared.Local.{Local}
+use Rattle.rules.specs.declared.Saved.{Saved}
+use Rattle.rules.specs.declared.Checkpoint.{Checkpoint}
+use Rattle.rules.specs.declared.Checkpoint.the-variants.{None, Mutable, Permanent}
+use Rattle.rules.proofs.Tests.{eqb-refl, or-left, or-right, or-off-left, or-off-right, and-left, and-right}
+use Rattle.rules.proofs.Guarded.{on-keeps, on-same, on-same-at, on-map, on-map-at, on-true}
+use Rattle.rules.proofs.Lists.{All, all-map, all-keep, keep, keep-join}
+use Rattle.rules.proofs.Tagged.{Tagged, Event, sending, receiving, zoneOf, isPost, TaggedPark, tagged, handedT, takenT, Step, Apart, tagged≡, Steps, steps-join, forward}
+use Rattle.rules.proofs.Untagged.{carsOf, plain, park≡}
+use Rattle.rules.proofs.Checkpoints.{has-depsAfter}
+use Rattle.rules.proofs.History.{History, openH, Unmarked, Depends, sendingOf, receivingOf, sendH, receiveH, popH, turnH, beginH, at-channel}
+use Rattle.rules.proofs.Kept.{Kept}
+use Rattle.rules.proofs.Dependencies.{PreOnly, pre-kept}
+
+-- The tagged park of a site: requests are left out, and the flag of a message is its tag.
+abbrev pub messages : List Item → List Tagged
+messages [] = []
+messages (message c flag ∷ l) = tagged c flag ∷ messages l
+messages (request set ∷ l) = messages l
+
+abbrev pub parkOf : History → TaggedPark
+parkOf h = record { stock = λ k. h .now .zone k .stock; channel = λ i j. messages (h .now .channel i j) }
+
+cars-messages : (l : List Item) → map carsOf (messages l) ≡ carsOn l
+cars-messages [] = refl
+cars-messages (message c flag ∷ l) = ap (λ t. c ∷ t) (cars-messages l)
+cars-messages (request set ∷ l) = cars-messages l
+
+pub plain-park : (h : History) → plain (parkOf h) ≡ present (h .now)
+plain-park h = park≡ _ _ (λ k. refl) (λ i j. cars-messages (h .now .channel i j))
+
+abbrev pub emptyT : (ℕ → ℕ) → TaggedPark
+emptyT v = record { stock = v; channel = λ i j. [] }
+
+-- The two parts of the log.
+abbrev pub inFirst : (ℕ → Bool) → Event → Bool
+inFirst F e = F (zoneOf e) && not (isPost e)
+
+abbrev pub inSecond : (ℕ → Bool) → Event → Bool
+inSecond F e = not (inFirst F e)
+
+abbrev pub Closed : (ℕ → Bool) → History → Type 0
+Closed F h = (j i : ℕ) → F j ≡ true → Depends h j i → F i ≡ true
+
+-- The stock of a zone of F after its events in the first part, and of any other zone.
+abbrev pub stockAt : Checkpoint → ℕ → ℕ
+stockAt None now = now
+stockAt (Mutable s) now = s .stock
+stockAt (Permanent s) now = s .stock
+
+abbrev pub held : Bool → Local → ℕ → ℕ
+held true z opening = stockAt (z .checkpoint) (z .stock)
+held false z opening = opening
+
+pub record Halves (v : ℕ → ℕ) (F : ℕ → Bool) (h : History) : Type 0 where
+  pub middle : TaggedPark
+  pub first : Steps (keep (inFirst F) (h .log)) (emptyT v) middle
+  pub second : Steps (keep (inSecond F) (h .log)) middle (parkOf h)
+  pub stocks : (z : ℕ) → middle .stock z ≡ held (F z) (h .now .zone z) (v z)
+
+abbrev pub Cuts : (ℕ → ℕ) → History → Type 0
+Cuts v h = (F : ℕ → Bool) → Closed F h → Halves v F h
+
+-- The tagged park after each step.
+messages-join : (l : List Item) (c : ℕ) (flag : Bool) → messages (join (message c flag) l) ≡ join (tagged c flag) (messages l)
+messages-join [] c flag = refl
+messages-join (message d n ∷ l) c flag = ap (λ t. tagged d n ∷ t) (messages-join l c flag)
+messages-join (request set ∷ l) c flag = messages-join l c flag
+
+messages-ask : (l : List Item) (set : ℕ) → messages (join (request set) l) ≡ messages l
+messages-ask [] set = refl
+messages-ask (message d n ∷ l) set = ap (λ t. tagged d n ∷ t) (messages-ask l set)
+messages-ask (request q ∷ l) set = messages-ask l set
+
+-- At the channel whose first item is taken.
+messages-tail : (p : Bool) (l : List Item) (c : ℕ) (flag : Bool) (r : List Item) → (p ≡ true → l ≡ message c flag ∷ r)
+    → messages (on p tail l) ≡ on p tail (messages l)
+messages-tail true l c flag r e = rw (e refl)
+messages-tail false l c flag r e = refl
+
+messages-drop : (p : Bool) (l : List Item) (set : ℕ) (r : List Item) → (p ≡ true → l ≡ request set ∷ r)
+    → messages (on p tail l) ≡ messages l
+messages-drop true l set r e = rw (e refl)
+messages-drop false l set r e = refl
+
+park-send : (a b c : ℕ) (h : History) → parkOf (sendH a b c h) ≡ handedT a b c (isMarked (h .now .zone a .checkpoint)) (parkOf h)
+park-send a b c h = tagged≡ _ _
+    (λ k. on-map (λ (z : Local). z .stock) (eqb k a) (sent c) (λ n. n - c) (h .now .zone k) refl)
+    (λ i j. on-map messages (eqb i a && eqb j b) _ _ (h .now .channel i j)
+    (messages-join (h .now .channel i j) c (isMarked (h .now .zone a .checkpoint))))
+
+park-receive : (a b c : ℕ) (flag : Bool) (l : List Item) (h : History) → h .now .channel a b ≡ message c flag ∷ l
+    → parkOf (receiveH a b c flag h) ≡ takenT a b c (parkOf h)
+park-receive a b c flag l h e = tagged≡ _ _
+    (λ k. on-map (λ (z : Local). z .stock) (eqb k b) (received a c flag) (λ n. n + c) (h .now .zone k) refl)
+    (λ i j. messages-tail (eqb i a && eqb j b) (h .now .channel i j) c flag l (λ t. at-channel a b i j h _ t e))
+
+park-pop : (a b set : ℕ) (l : List Item) (h : History) → h .now .channel a b ≡ request set ∷ l → parkOf (popH a b h) ≡ parkOf h
+park-pop a b set l h e = tagged≡ _ _ (λ k. refl)
+    (λ i j. messages-drop (eqb i a && eqb j b) (h .now .channel i j) set l (λ t. at-channel a b i j h _ t e))
+
+park-turn : (b set : ℕ) (h : History) → parkOf (turnH b set h) ≡ parkOf h
+park-turn b set h = tagged≡ _ _
+    (λ k. on-same (λ (z : Local). z .stock) (eqb k b) requested (h .now .zone k) refl)
+    (λ i j. on-same messages (eqb i b && has (asked b set (h .now .zone b)) j) (join (request (carried set (h .now .zone b))))
+    (h .now .channel i j)
+    (messages-ask (h .now .channel i j) _))
+
+-- A step without an event keeps the cut.
+silent : (v : ℕ → ℕ) (h t : History) → t .log ≡ h .log → parkOf t ≡ parkOf h
+    → ((j : ℕ) → t .now .zone j .deps ≡ h .now .zone j .deps)
+    → ((z : ℕ) (p : Bool) → held p (t .now .zone z) (v z) ≡ held p (h .now .zone z) (v z)) → Cuts v h → Cuts v t
+silent v h t l y d q cuts F closed =
+    let r = cuts F (λ j i f e. closed j i f (ap (λ (n : ℕ). has n i) (d j) ∙ e)) in
+    record {
+      middle = r .middle;
+      first = rw l (r .first);
+      second = rw (l, y) (r .second);
+      stocks = λ z. r .stocks z ∙ sym (q z (F z));
+    }
+
+-- A checkpoint made permanent keeps its stock.
+stock-made : (k : Checkpoint) (now : Saved) → stockAt (madePermanent k now) (now .stock) ≡ stockAt k (now .stock)
+stock-made None now = refl
+stock-made (Mutable s) now = refl
+stock-made (Permanent s) now = refl
+
+held-requested : (p : Bool) (z : Local) (o : ℕ) → held p (requested z) o ≡ held p z o
+held-requested true z o = stock-made (z .checkpoint) (saved z)
+held-requested false z o = refl
+
+turn-cuts : (v : ℕ → ℕ) (b set : ℕ) (h t : History) → t .log ≡ h .log → t .now .zone ≡ h .now .zone → parkOf t ≡ parkOf h → Cuts v h
+    → Cuts v (turnH b set t)
+turn-cuts v b set h t l z y = silent v h (turnH b set t) l (park-turn b set t ∙ y)
+    (λ j. on-same (λ (k : Local). k .deps) (eqb j b) requested (t .now .zone j) refl ∙ ap (λ (f : ℕ → Local). f j .deps) z)
+    (λ k p. on-same (λ (w : Local). held p w (v k)) (eqb k b) requested (t .now .zone k) (held-requested p (t .now .zone k) (v k))
+    ∙ ap (λ (f : ℕ → Local). held p (f k) (v k)) z)
+
+-- An unmarked zone of F has no event in the second part.
+not-own : (F : ℕ → Bool) (h : History) (z : ℕ) → F z ≡ true → Unmarked h z → (e : Event)
+    → (Unmarked h (zoneOf e) → isPost e ≡ false)
+    → inSecond F e ≡ true → zoneOf e ≢ z
+not-own F h z f u e k t q =
+    let w : isPost e ≡ false = k (subst (Unmarked h) (sym q) u) in
+    let x : inSecond F e ≡ false = rw (w, q, f) in
+    true≢false (sym t ∙ x)
+
+apart-send : (F : ℕ → Bool) (h : History) (a b c : ℕ) (m : Bool) → F a ≡ true → Unmarked h a
+    → (e : Event) → (Unmarked h (zoneOf e) → isPost e ≡ false) → inSecond F e ≡ true → Apart e (sending a b c m)
+apart-send F h a b c m f u (sending x y d n) k t = not-own F h a f u (sending x y d n) k t
+apart-send F h a b c m f u (receiving x y d n) k t = not-own F h a f u (receiving x y d n) k t
+
+-- An event of a zone of F in the second part comes after the zone's checkpoint.
+post-second : (p n : Bool) → p ≡ true → not (p && not n) ≡ true → n ≡ true
+post-second true true e t = refl
+post-second true false e t = t
+post-second false n e t = absurd (false≢true e)
+
+apart-receive : (F : ℕ → Bool) (h : History) (a b c : ℕ) (m : Bool) → m ≡ false → F a ≡ true → F b ≡ true → Unmarked h b
+    → (e : Event) → (Unmarked h (zoneOf e) → isPost e ≡ false) → inSecond F e ≡ true → Apart e (receiving a b c m)
+apart-receive F h a b c m q fa f u (sending x y d n) k t =
+    (not-own F h b f u (sending x y d n) k t, q, λ w. post-second (F x) n (ap F w ∙ fa) t)
+apart-receive F h a b c m q fa f u (receiving x y d n) k t = not-own F h b f u (receiving x y d n) k t
+
+-- One more event e, by which h becomes t.
+module _ (v : ℕ → ℕ) (F : ℕ → Bool) (h t : History) (e : Event) (step : Step e (parkOf h) (parkOf t))
+    (logged : t .log ≡ join e (h .log))
+    (r : Halves v F h) where
+  -- In the first part: it moves forward past the second part.
+  one-first : inFirst F e ≡ true → All (λ x. inSecond F x ≡ true → Apart x e) (h .log)
+      → ((m : TaggedPark) → Step e (r .middle) m → (z : ℕ) → m .stock z ≡ held (F z) (t .now .zone z) (v z)) → Halves v F t
+  one-first q apart stock =
+      let w = forward (keep (inSecond F) (h .log)) e (r .middle) (parkOf h) (parkOf t)
+      (all-keep (λ x. Apart x e) (inSecond F) (h .log) apart) (r .second) step in
+      record {
+        middle = w .0;
+        first = rw (logged, keep-join (inFirst F), q)
+            (steps-join (keep (inFirst F) (h .log)) e (emptyT v) (r .middle) (w .0) (r .first) (w .1));
+        second = rw (logged, keep-join (inSecond F), q, append-nil (keep (inSecond F) (h .log))) (w .2);
+        stocks = stock (w .0) (w .1);
+      }
+
+  -- In the second part: it joins the end.
+  one-second : inFirst F e ≡ false → ((z : ℕ) → held (F z) (t .now .zone z) (v z) ≡ held (F z) (h .now .zone z) (v z))
+      → Halves v F t
+  one-second q stock = record {
+    middle = r .middle;
+    first = rw (logged, keep-join (inFirst F), q, append-nil (keep (inFirst F) (h .log))) (r .first);
+    second = rw (logged, keep-join (inSecond F), q)
+        (steps-join (keep (inSecond F) (h .log)) e (r .middle) (parkOf h) (parkOf t) (r .second) step);
+    stocks = λ z. r .stocks z ∙ sym (stock z);
+  }
+
+-- What a zone holds after an event of the first part, and after one of the second.
+stock-sent : (k : Checkpoint) (v w : ℕ) → not (isMarked k) ≡ false → stockAt k v ≡ stockAt k w
+stock-sent None v w e = absurd (true≢false e)
+stock-sent (Mutable s) v w e = refl
+stock-sent (Permanent s) v w e = refl
+
+stock-send : (k : Checkpoint) (v c : ℕ) → not (isMarked k) ≡ true → stockAt k (v - c) ≡ stockAt k v - c
+stock-send None v c e = refl
+stock-send (Mutable s) v c e = absurd (false≢true e)
+stock-send (Permanent s) v c e = absurd (false≢true e)
+
+held-send : (p : Bool) (c : ℕ) (z : Local) (o : ℕ) → p && not (isMarked (z .checkpoint)) ≡ true
+    → held p (sent c z) o ≡ held p z o - c
+held-send true c z o e = stock-send (z .checkpoint) (z .stock) c e
+held-send false c z o e = absurd (false≢true e)
+
+held-sent : (p : Bool) (c : ℕ) (z : Local) (o : ℕ) → p && not (isMarked (z .checkpoint)) ≡ false → held p (sent c z) o ≡ held p z o
+held-sent true c z o e = stock-sent (z .checkpoint) (z .stock - c) (z .stock) e
+held-sent false c z o e = refl
+
+stock-receive : (k : Checkpoint) (now : Saved) (flag : Bool) (c : ℕ) → not (isMarked k || flag) ≡ true
+    → stockAt (checkpointAfter k now flag) (now .stock + c) ≡ stockAt k (now .stock) + c
+stock-receive None now true c e = absurd (false≢true e)
+stock-receive None now false c e = refl
+stock-receive (Mutable s) now flag c e = absurd (false≢true e)
+stock-receive (Permanent s) now flag c e = absurd (false≢true e)
+
+stock-received : (k : Checkpoint) (now : Saved) (flag : Bool) (c : ℕ) → not (isMarked k || flag) ≡ false
+    → stockAt (checkpointAfter k now flag) (now .stock + c) ≡ stockAt k (now .stock)
+stock-received None now true c e = refl
+stock-received None now false c e = absurd (true≢false e)
+stock-received (Mutable s) now flag c e = refl
+stock-received (Permanent s) now flag c e = refl
+
+held-receive : (p : Bool) (a c : ℕ) (flag : Bool) (z : Local) (o : ℕ) → p && not (isMarked (z .checkpoint) || flag) ≡ true
+    → held p (received a c flag z) o ≡ held p z o + c
+held-receive true a c flag z o e = stock-receive (z .checkpoint) (saved z) flag c e
+held-receive false a c flag z o e = absurd (false≢true e)
+
+held-received : (p : Bool) (a c : ℕ) (flag : Bool) (z : Local) (o : ℕ) → p && not (isMarked (z .checkpoint) || flag) ≡ false
+    → held p (received a c flag z) o ≡ held p z o
+held-received true a c flag z o e = stock-received (z .checkpoint) (saved z) flag c e
+held-received false a c flag z o e = refl
+
+send-cuts : (v : ℕ → ℕ) (a b c : ℕ) (h : History) → c ≤ h .now .zone a .stock → PreOnly h → Cuts v h → Cuts v (sendH a b c h)
+send-cuts v a b c h le pre cuts F closed = go (inFirst F e) refl
+  where
+    m : Bool
+    m = isMarked (h .now .zone a .checkpoint)
+
+    e : Event
+    e = sendingOf a b c (h .now)
+
+    t : History
+    t = sendH a b c h
+
+    r : Halves v F h
+    r = cuts F (λ j i f q. closed j i f (on-same (λ (z : Local). has (z .deps) i) (eqb j a) (sent c) (h .now .zone j) refl ∙ q))
+
+    step : Step e (parkOf h) (parkOf t)
+    step = (le, park-send a b c h)
+
+    same : (z : ℕ) (p : Bool) → eqb z a ≡ true → inFirst F e ≡ p → F z && not (isMarked (h .now .zone z .checkpoint)) ≡ p
+    same z p q w = ap (λ (k : ℕ). F k && not (isMarked (h .now .zone k .checkpoint))) (eqb-true z a q) ∙ w
+
+    go : (p : Bool) → inFirst F e ≡ p → Halves v F t
+    go true q = one-first v F h t e step refl r q
+        (all-map _ _ (h .log) (λ x k w. apart-send F h a b c m (and-left (F a) (not m) q)
+        (not-true m (and-right (F a) (not m) q)) x k w) pre)
+        (λ y st z. ap (λ (Y : TaggedPark). Y .stock z) (st .1) ∙ ap (on (eqb z a) (λ n. n - c)) (r .stocks z)
+        ∙ sym (on-map-at (λ (w : Local). held (F z) w (v z)) (eqb z a) (sent c) (λ n. n - c) (h .now .zone z)
+        (λ w. held-send (F z) c (h .now .zone z) (v z) (same z true w q))))
+    go false q = one-second v F h t e step refl r q
+        (λ z. on-same-at (λ (w : Local). held (F z) w (v z)) (eqb z a) (sent c) (h .now .zone z)
+        (λ w. held-sent (F z) c (h .now .zone z) (v z) (same z false w q)))
+
+receive-cuts : (v : ℕ → ℕ) (a b c : ℕ) (flag : Bool) (l : List Item) (h : History) → h .now .channel a b ≡ message c flag ∷ l
+    → PreOnly h → Cuts v h → Cuts v (receiveH a b c flag h)
+receive-cuts v a b c flag l h at pre cuts F closed = go (inFirst F e) refl
+  where
+    n : Bool
+    n = isMarked (h .now .zone b .checkpoint) || flag
+
+    e : Event
+    e = receivingOf a b c flag (h .now)
+
+    t : History
+    t = receiveH a b c flag h
+
+    r : Halves v F h
+    r = cuts F (λ j i f q. closed j i f (on-keeps (λ (z : Local). has (z .deps) i ≡ true) (eqb j b) (received a c flag)
+        (h .now .zone j)
+        (λ w. has-depsAfter (h .now .zone j .checkpoint) (h .now .zone j .deps) a flag i ∙ or-left _ _ w) q))
+
+    step : Step e (parkOf h) (parkOf t)
+    step = (
+      tagged c flag,
+      messages l,
+      ap messages at,
+      or-off-right (isMarked (h .now .zone b .checkpoint)) flag,
+      park-receive a b c flag l h at,
+      refl,
+    )
+
+    same : (z : ℕ) (p : Bool) → eqb z b ≡ true → inFirst F e ≡ p → F z && not (isMarked (h .now .zone z .checkpoint) || flag) ≡ p
+    same z p q w = ap (λ (k : ℕ). F k && not (isMarked (h .now .zone k .checkpoint) || flag)) (eqb-true z b q) ∙ w
+
+    -- A receipt in the first part puts the sender into the dependency set.
+    depended : not n ≡ true → Depends t b a
+    depended q =
+        ap (λ (z : Local). has (z .deps) a) (on-true (eqb b b) (received a c flag) (h .now .zone b) (eqb-refl b))
+        ∙ has-depsAfter (h .now .zone b .checkpoint) (h .now .zone b .deps) a flag a
+        ∙ or-right (has (h .now .zone b .deps) a) _ (ap (λ x. x && eqb a a) q ∙ eqb-refl a)
+
+    go : (p : Bool) → inFirst F e ≡ p → Halves v F t
+    go true q =
+        let fb = and-left (F b) (not n) q in
+        let nn = and-right (F b) (not n) q in
+        one-first v F h t e step refl r q
+        (all-map _ _ (h .log) (λ x k w. apart-receive F h a b c n (not-true n nn) (closed b a fb (depended nn)) fb
+        (or-off-left _ flag (not-true n nn)) x k w) pre)
+        (λ y st z. ap (λ (Y : TaggedPark). Y .stock z) (st .4) ∙ ap (on (eqb z b) (λ k. k + c)) (r .stocks z)
+        ∙ sym (on-map-at (λ (w : Local). held (F z) w (v z)) (eqb z b) (received a c flag) (λ k. k + c) (h .now .zone z)
+        (λ w. held-receive (F z) a c flag (h .now .zone z) (v z) (same z true w q))))
+    go false q = one-second v F h t e step refl r q
+        (λ z. on-same-at (λ (w : Local). held (F z) w (v z)) (eqb z b) (received a c flag) (h .now .zone z)
+        (λ w. held-received (F z) a c flag (h .now .zone z) (v z) (same z false w q)))
+
+pub cuts-kept : (v : ℕ → ℕ) → Kept (λ h. PreOnly h × Cuts v h)
+cuts-kept v = record {
+  at-send = λ a b c h le q. (pre-kept .at-send a b c h le (q .0), send-cuts v a b c h le (q .0) (q .1));
+  at-receive = λ a b c flag l h e q. (pre-kept .at-receive a b c flag l h e (q .0), receive-cuts v a b c flag l h e (q .0) (q .1));
+  at-drop = λ a b set l h e p q. (
+    pre-kept .at-drop a b set l h e p (q .0),
+    silent v h (popH a b h) refl (park-pop a b set l h e) (λ j. refl) (λ z p. refl) (q .1),
+  );
+  at-request = λ a b set l h e p q. (
+    pre-kept .at-request a b set l h e p (q .0),
+    turn-cuts v b set h (popH a b h) refl refl (park-pop a b set l h e) (q .1),
+  );
+  at-start = λ a h e u q. (pre-kept .at-start a h e u (q .0), turn-cuts v a nobody h (beginH a h) refl refl refl (q .1));
+}
+
+pub cuts-open : (v : ℕ → ℕ) → PreOnly (openH v) × Cuts v (openH v)
+cuts-open v = (tt, λ F closed. record { middle = emptyT v; first = refl; second = refl; stocks = λ z. go (F z) z })
+  where
+    go : (p : Bool) (z : ℕ) → v z ≡ held p (opened z (v z)) (v z)
+    go true z = refl
+    go false z = refl

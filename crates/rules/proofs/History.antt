@@ -1,0 +1,132 @@
+-- A history: the site, with what happened on the way to it. Its site is that of the run, and its events without their tags are the
+-- moves that the park is fed. Assumes nothing.
+use mathlib.Core.Path.{_≡_, refl, sym, _∙_, ap}
+use mathlib.Core.Bool.{Bool, true, false, _&&_, _||_}
+use mathlib.Core.List.{List, [], _∷_, _++_, append-assoc, append-nil, map}
+use mathlib.Core.Option.{Option, none, some}
+use Prim.Native.Nat.{ℕ}
+use lib.Dec.{eqb}
+use Rattle.rules.specs.Change.{join}
+use Rattle.rules.specs.Sets.{has}
+use Rattle.rules.specs.Zone.{isMarked, isPermanent}
+use Rattle.rules.specs.Site.{Item, message, request, Site, sendS, receiveS, popS, turnS, startS, Call, send, receive, start, stepS, openS}
+use Rattle.rules.specs.Park.{Move}
+use Rattle.rules.specs.Cut.{Allowed, run, taking, moveOf, moves}
+use Rattle.rules.proofs.Tests.{both-true}
+use Rattle.rules.proofs.Lists.{map-join}
+use Rattle.rules.proofs.Tagged.{Event, sending, receiving}
+use Rattle.rules.proofs.Untagged.{untag}
+
+-- The site, the zone that started if one did, and the own events of all zones in order.
+pub record History : Type 0 where
+  pub now : Site
+  pub initiator : Option ℕ
+  pub log : List Event
+
+abbrev pub openH : (ℕ → ℕ) → History
+openH v = record { now = openS v; initiator = none; log = [] }
+
+-- What is asked of a zone at the end of a history.
+abbrev pub Unmarked : History → ℕ → Type 0
+Unmarked h k = isMarked (h .now .zone k .checkpoint) ≡ false
+
+abbrev pub IsPermanent : History → ℕ → Type 0
+IsPermanent h k = isPermanent (h .now .zone k .checkpoint) ≡ true
+
+abbrev pub Depends : History → ℕ → ℕ → Type 0
+Depends h k i = has (h .now .zone k .deps) i ≡ true
+
+-- The steps. An event is tagged by whether its zone is marked; a flag marks the receiver before it receives.
+abbrev pub sendingOf : ℕ → ℕ → ℕ → Site → Event
+sendingOf a b c s = sending a b c (isMarked (s .zone a .checkpoint))
+
+abbrev pub receivingOf : ℕ → ℕ → ℕ → Bool → Site → Event
+receivingOf a b c flag s = receiving a b c (isMarked (s .zone b .checkpoint) || flag)
+
+abbrev pub sendH : ℕ → ℕ → ℕ → History → History
+sendH a b c h = record { now = sendS a b c (h .now); initiator = h .initiator; log = join (sendingOf a b c (h .now)) (h .log) }
+
+abbrev pub receiveH : ℕ → ℕ → ℕ → Bool → History → History
+receiveH a b c flag h = record {
+  now = receiveS a b c flag (h .now);
+  initiator = h .initiator;
+  log = join (receivingOf a b c flag (h .now)) (h .log);
+}
+
+abbrev pub popH : ℕ → ℕ → History → History
+popH a b h = record { now = popS a b (h .now); initiator = h .initiator; log = h .log }
+
+abbrev pub turnH : ℕ → ℕ → History → History
+turnH b set h = record { now = turnS b set (h .now); initiator = h .initiator; log = h .log }
+
+abbrev pub beginH : ℕ → History → History
+beginH a h = record { now = h .now; initiator = some a; log = h .log }
+
+abbrev pub startH : ℕ → History → History
+startH a h = record { now = startS a (h .now); initiator = some a; log = h .log }
+
+-- What a call does to a history.
+abbrev pub initiatorAfter : Call → Option ℕ → Option ℕ
+initiatorAfter (send a b c) o = o
+initiatorAfter (receive a b) o = o
+initiatorAfter (start a) o = some a
+
+abbrev pub logTaken : ℕ → ℕ → List Item → Site → List Event → List Event
+logTaken a b [] s log = log
+logTaken a b (message c flag ∷ l) s log = join (receivingOf a b c flag s) log
+logTaken a b (request set ∷ l) s log = log
+
+abbrev pub logAfter : Call → Site → List Event → List Event
+logAfter (send a b c) s log = join (sendingOf a b c s) log
+logAfter (receive a b) s log = logTaken a b (s .channel a b) s log
+logAfter (start a) s log = log
+
+abbrev pub stepH : Call → History → History
+stepH c h = record { now = stepS c (h .now); initiator = initiatorAfter c (h .initiator); log = logAfter c (h .now) (h .log) }
+
+abbrev pub history : List Call → History → History
+history [] h = h
+history (c ∷ cs) h = history cs (stepH c h)
+
+abbrev pub movesOf : History → List Move
+movesOf h = map untag (h .log)
+
+-- The channel from i to k, where it is that from a to b.
+pub at-channel : (a b i k : ℕ) (h : History) (l : List Item) → eqb i a && eqb k b ≡ true → h .now .channel a b ≡ l
+    → h .now .channel i k ≡ l
+at-channel a b i k h l t e = let q = both-true i a k b t in cc
+
+-- The site of a history is that of the run.
+pub now-run : (cs : List Call) (h : History) → (history cs h) .now ≡ run cs (h .now)
+now-run [] h = refl
+now-run (c ∷ cs) h = now-run cs (stepH c h)
+
+-- Its events without their tags are the moves of the calls.
+moves-after : (c : Call) (s : Site) (log : List Event) → map untag (logAfter c s log) ≡ map untag log ++ moveOf c s
+moves-after (send a b c) s log = map-join untag log _
+moves-after (receive a b) s log = go (s .channel a b)
+  where
+    go : (l : List Item) → map untag (logTaken a b l s log) ≡ map untag log ++ taking a b l
+    go [] = sym (append-nil (map untag log))
+    go (message c flag ∷ l) = map-join untag log _
+    go (request set ∷ l) = sym (append-nil (map untag log))
+moves-after (start a) s log = sym (append-nil (map untag log))
+
+moves-run : (cs : List Call) (h : History) → movesOf (history cs h) ≡ movesOf h ++ moves cs (h .now)
+moves-run [] h = sym (append-nil (movesOf h))
+moves-run (c ∷ cs) h =
+    moves-run cs (stepH c h) ∙ ap (λ (ms : List Move). ms ++ moves cs (stepS c (h .now))) (moves-after c (h .now) (h .log))
+    ∙ append-assoc (movesOf h) (moveOf c (h .now)) (moves cs (stepS c (h .now)))
+
+pub moves-open : (v : ℕ → ℕ) (cs : List Call) → movesOf (history cs (openH v)) ≡ moves cs (openS v)
+moves-open v cs = moves-run cs (openH v)
+
+-- Calls in two parts.
+pub history-append : (xs ys : List Call) (h : History) → history (xs ++ ys) h ≡ history ys (history xs h)
+history-append [] ys h = refl
+history-append (x ∷ xs) ys h = history-append xs ys (stepH x h)
+
+pub allowed-append : (xs ys : List Call) (h : History) → Allowed (xs ++ ys) (h .now)
+    → Allowed xs (h .now) × Allowed ys ((history xs h) .now)
+allowed-append [] ys h al = (tt, al)
+allowed-append (x ∷ xs) ys h al = let r = allowed-append xs ys (stepH x h) (al .1) in ((al .0, r .0), r .1)

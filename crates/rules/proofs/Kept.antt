@@ -1,0 +1,158 @@
+-- What each step of a history does or keeps, every list of allowed calls does or keeps. A start is a request from nobody, since
+-- before the first start no zone is marked, and there is no second. Assumes nothing.
+use mathlib.Core.Path.{_≡_, refl, sym, _∙_, ap, subst}
+use mathlib.Core.Bool.{Bool, true, false, _&&_, _||_, not, true≢false}
+use mathlib.Core.List.{List, [], _∷_, tail}
+use mathlib.Core.Option.{Option, none, some}
+use Prim.Native.Nat.{ℕ, _≤_}
+use lib.Dec.{eqb}
+use borrow.Author.Tests.{eqb-true}
+use Rattle.rules.specs.Change.{on, join}
+use Rattle.rules.specs.Sets.{nobody}
+use Rattle.rules.specs.Zone.{isMarked, isPermanent, sent, received, started, requested}
+use Rattle.rules.specs.Site.{Item, message, request, popS, turnS, takeS, startS, Call, send, receive, start}
+use Rattle.rules.specs.Cut.{May, Allowed}
+use Rattle.rules.specs.declared.Local.{Local}
+use Rattle.rules.proofs.Tests.{eqb-refl}
+use Rattle.rules.proofs.Guarded.{on-keeps, on-true}
+use Rattle.rules.proofs.Lists.{All, all-join, all-tail}
+use Rattle.rules.proofs.Checkpoints.{marked-after, permanent-after, permanent-made, started-requested}
+use Rattle.rules.proofs.History.{History, openH, Unmarked, IsPermanent, sendH, receiveH, popH, turnH, beginH, startH, logTaken, stepH, history}
+
+-- R leads from each history to the next, whatever the step.
+pub record Does {κ} (R : History → History → Type κ) : Type κ where
+  pub at-send : (a b c : ℕ) (h : History) → c ≤ h .now .zone a .stock → R h (sendH a b c h)
+  pub at-receive : (a b c : ℕ) (flag : Bool) (l : List Item) (h : History) → h .now .channel a b ≡ message c flag ∷ l
+      → R h (receiveH a b c flag h)
+  pub at-drop : (a b set : ℕ) (l : List Item) (h : History) → h .now .channel a b ≡ request set ∷ l
+      → isPermanent (h .now .zone b .checkpoint) ≡ true → R h (popH a b h)
+  pub at-request : (a b set : ℕ) (l : List Item) (h : History) → h .now .channel a b ≡ request set ∷ l
+      → isPermanent (h .now .zone b .checkpoint) ≡ false → R h (turnH b set (popH a b h))
+  pub at-start : (a : ℕ) (h : History) → h .initiator ≡ none → ((z : ℕ) → Unmarked h z) → R h (turnH a nobody (beginH a h))
+
+-- P is kept, whatever the step.
+abbrev pub Kept {κ} : (History → Type κ) → Type κ
+Kept P = Does (λ h t. P h → P t)
+
+-- Before a start no message has the flag and no request is on its way.
+abbrev Calm : Item → Type 0
+Calm (message c flag) = flag ≡ false
+Calm (request set) = ⊥
+
+pub record Fresh (h : History) : Type 0 where
+  pub unmarked : h .initiator ≡ none → (z : ℕ) → Unmarked h z
+  pub calm : h .initiator ≡ none → (i j : ℕ) → All Calm (h .now .channel i j)
+  pub begun : (a : ℕ) → h .initiator ≡ some a → IsPermanent h a
+
+pub some≢none : {a : ℕ} → _≡_ {A = Option ℕ} (some a) none → ⊥
+some≢none e = let z : _≡_ {A = Bool} true false = cc in true≢false z
+
+fresh-kept : Kept Fresh
+fresh-kept = record {
+  at-send = λ a b c h _ f. record {
+    unmarked = λ e z. on-keeps (λ (k : Local). isMarked (k .checkpoint) ≡ false) (eqb z a) (sent c) (h .now .zone z) (λ q. q)
+        (f .unmarked e z);
+    calm = λ e i j. on-keeps (All Calm) (eqb i a && eqb j b) (join (message c (isMarked (h .now .zone a .checkpoint))))
+        (h .now .channel i j)
+        (λ w. all-join Calm (h .now .channel i j) _ w (f .unmarked e a)) (f .calm e i j);
+    begun = λ x e. on-keeps (λ (k : Local). isPermanent (k .checkpoint) ≡ true) (eqb x a) (sent c) (h .now .zone x) (λ q. q)
+        (f .begun x e);
+  };
+  at-receive = λ a b c flag l h at f. record {
+    unmarked = λ e z. on-keeps (λ (k : Local). isMarked (k .checkpoint) ≡ false) (eqb z b) (received a c flag) (h .now .zone z)
+        (λ q. marked-after (h .now .zone z .checkpoint) _ flag ∙ ap (λ (t : Bool). t || flag) q
+        ∙ first a b c flag l h at (f .calm e)) (f .unmarked e z);
+    calm = λ e i j. on-keeps (All Calm) (eqb i a && eqb j b) tail (h .now .channel i j) (all-tail Calm (h .now .channel i j))
+        (f .calm e i j);
+    begun = λ x e. on-keeps (λ (k : Local). isPermanent (k .checkpoint) ≡ true) (eqb x b) (received a c flag) (h .now .zone x)
+        (λ q. permanent-after (h .now .zone x .checkpoint) _ flag ∙ q) (f .begun x e);
+  };
+  at-drop = λ a b set l h at _ f. record {
+    unmarked = f .unmarked;
+    calm = λ e. absurd (asking a b set l h at (f .calm e));
+    begun = f .begun;
+  };
+  at-request = λ a b set l h at _ f. record {
+    unmarked = λ e. absurd (asking a b set l h at (f .calm e));
+    calm = λ e. absurd (asking a b set l h at (f .calm e));
+    begun = λ x e. turned b set (popH a b h) x (f .begun x e);
+  };
+  at-start = λ a h _ _ f. record {
+    unmarked = λ e. absurd (some≢none e);
+    calm = λ e. absurd (some≢none e);
+    begun = λ x e.
+        let i : a ≡ x = cc in
+        subst (IsPermanent (turnH a nobody (beginH a h))) i (ap (λ (k : Local). isPermanent (k .checkpoint))
+        (on-true (eqb a a) requested (h .now .zone a) (eqb-refl a)) ∙ permanent-made (h .now .zone a .checkpoint) _);
+  };
+}
+  where
+    first : (a b c : ℕ) (flag : Bool) (l : List Item) (h : History) → h .now .channel a b ≡ message c flag ∷ l
+        → ((i j : ℕ) → All Calm (h .now .channel i j)) → flag ≡ false
+    first a b c flag l h at q = (subst (All Calm) at (q a b)) .0
+
+    asking : (a b set : ℕ) (l : List Item) (h : History) → h .now .channel a b ≡ request set ∷ l
+        → ((i j : ℕ) → All Calm (h .now .channel i j)) → ⊥
+    asking a b set l h at q = (subst (All Calm) at (q a b)) .0
+
+    turned : (b set : ℕ) (h : History) (x : ℕ) → IsPermanent h x → IsPermanent (turnH b set h) x
+    turned b set h x = on-keeps (λ (k : Local). isPermanent (k .checkpoint) ≡ true) (eqb x b) requested (h .now .zone x)
+        (λ q. permanent-made (h .now .zone x .checkpoint) _)
+
+pub fresh-open : (v : ℕ → ℕ) → Fresh (openH v)
+fresh-open v = record { unmarked = λ e z. refl; calm = λ e i j. tt; begun = λ a e. absurd (some≢none (sym e)) }
+
+-- A start that is allowed is the first.
+pub first-start : (a : ℕ) (h : History) → Fresh h → May (start a) (h .now) → h .initiator ≡ none
+first-start a h f may = go (h .initiator) refl
+  where
+    go : (o : Option ℕ) → h .initiator ≡ o → o ≡ none
+    go none e = refl
+    go (some x) e = absurd (true≢false (sym (f .begun x e) ∙ may x))
+
+start-turn : (a : ℕ) (h : History) → Unmarked h a → startH a h ≡ turnH a nobody (beginH a h)
+start-turn a h e = λ i. record {
+  now = record { zone = λ k. zones k i; channel = (startS a (h .now)) .channel };
+  initiator = some a;
+  log = h .log;
+}
+  where
+    zones : (k : ℕ) → (startS a (h .now)) .zone k ≡ (turnS a nobody (h .now)) .zone k
+    zones k = go (eqb k a) refl
+      where
+        go : (p : Bool) → eqb k a ≡ p → on p started (h .now .zone k) ≡ on p requested (h .now .zone k)
+        go true q = started-requested (h .now .zone k) (ap (λ (x : ℕ). isMarked (h .now .zone x .checkpoint)) (eqb-true k a q) ∙ e)
+        go false q = refl
+
+module _ {κ} (R : History → History → Type κ) (does : Does R) where
+  -- One allowed call.
+  pub call-does : (c : Call) (h : History) → Fresh h → May c (h .now) → R h (stepH c h)
+  call-does (send a b c) h f may = does .at-send a b c h may
+  call-does (receive a b) h f may = go (h .now .channel a b) refl
+    where
+      turn : (set : ℕ) (l : List Item) (p : Bool) → h .now .channel a b ≡ request set ∷ l
+          → isPermanent (h .now .zone b .checkpoint) ≡ p
+          → R h (record { now = on (not p) (turnS b set) (popS a b (h .now)); initiator = h .initiator; log = h .log })
+      turn set l true at e = does .at-drop a b set l h at e
+      turn set l false at e = does .at-request a b set l h at e
+
+      go : (l : List Item) → h .now .channel a b ≡ l
+          → R h (record { now = takeS a b l (h .now); initiator = h .initiator; log = logTaken a b l (h .now) (h .log) })
+      go [] at = absurd (may at)
+      go (message c flag ∷ l) at = does .at-receive a b c flag l h at
+      go (request set ∷ l) at = turn set l (isPermanent (h .now .zone b .checkpoint)) at refl
+  call-does (start a) h f may =
+      let e = first-start a h f may in
+      subst (R h) (sym (start-turn a h (f .unmarked e a))) (does .at-start a h e (f .unmarked e))
+
+pub fresh-call : (c : Call) (h : History) → Fresh h → May c (h .now) → Fresh (stepH c h)
+fresh-call c h f may = call-does (λ h t. Fresh h → Fresh t) fresh-kept c h f may f
+
+-- Allowed calls, one after another.
+module _ {κ} (P : History → Type κ) (kept : Kept P) where
+  pub calls-keep : (cs : List Call) (h : History) → Fresh h → Allowed cs (h .now) → P h → P (history cs h)
+  calls-keep [] h f al p = p
+  calls-keep (c ∷ cs) h f al p = calls-keep cs (stepH c h) (fresh-call c h f (al .0)) (al .1) (call-does _ kept c h f (al .0) p)
+
+pub fresh-calls : (cs : List Call) (h : History) → Fresh h → Allowed cs (h .now) → Fresh (history cs h)
+fresh-calls cs h f al = calls-keep Fresh fresh-kept cs h f al f

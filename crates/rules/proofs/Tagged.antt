@@ -1,0 +1,167 @@
+-- The park whose messages carry a tag, whether they were sent before or after their sender's checkpoint: there an event that counts
+-- as before may be moved forward past the events that count as after. Assumes nothing.
+use mathlib.Core.Path.{_≡_, refl, sym, _∙_, ap, subst}
+use mathlib.Core.Bool.{Bool, true, false, _&&_, true≢false}
+use mathlib.Core.Logic.{_≢_}
+use mathlib.Core.List.{List, [], _∷_, tail}
+use Prim.Native.Nat.{ℕ, _+_, _-_, _≤_}
+use lib.Dec.{eqb}
+use borrow.Author.Tests.{ne-eqb}
+use Rattle.rules.specs.Change.{on, join}
+use Rattle.rules.proofs.Tests.{apart, apart-senders, apart-receivers, both-true, other-receiver}
+use Rattle.rules.proofs.Guarded.{on-apart, on-swap-at, on-false}
+use Rattle.rules.proofs.Lists.{All}
+
+-- A message on a channel; post: its sender had a checkpoint when it was sent.
+pub record Tagged : Type 0 where
+  pub cars : ℕ
+  pub post : Bool
+
+-- An own event of a zone; post: it comes after the zone's checkpoint.
+pub data Event : Type 0 where
+  sending : (from to cars : ℕ) (post : Bool) → Event
+  receiving : (from to cars : ℕ) (post : Bool) → Event
+
+abbrev pub zoneOf : Event → ℕ
+zoneOf (sending a b c m) = a
+zoneOf (receiving a b c m) = b
+
+abbrev pub isPost : Event → Bool
+isPost (sending a b c m) = m
+isPost (receiving a b c m) = m
+
+pub record TaggedPark : Type 0 where
+  pub stock : ℕ → ℕ
+  pub channel : ℕ → ℕ → List Tagged
+
+abbrev pub tagged : ℕ → Bool → Tagged
+tagged c m = record { cars = c; post = m }
+
+abbrev pub handedT : ℕ → ℕ → ℕ → Bool → TaggedPark → TaggedPark
+handedT a b c m S = record {
+  stock = λ k. on (eqb k a) (λ v. v - c) (S .stock k);
+  channel = λ i j. on (eqb i a && eqb j b) (join (tagged c m)) (S .channel i j);
+}
+
+abbrev pub takenT : ℕ → ℕ → ℕ → TaggedPark → TaggedPark
+takenT a b c S = record {
+  stock = λ k. on (eqb k b) (λ v. v + c) (S .stock k);
+  channel = λ i j. on (eqb i a && eqb j b) tail (S .channel i j);
+}
+
+-- The event e leads from S to T: the stock covers the cars; a receipt that counts as before takes a message that does so too.
+abbrev pub Step : Event → TaggedPark → TaggedPark → Type 0
+Step (sending a b c m) S T = (c ≤ S .stock a) × (T ≡ handedT a b c m S)
+Step (receiving a b c m) S T =
+    (l : Tagged) × (r : List Tagged) × (S .channel a b ≡ l ∷ r) × (m ≡ false → l .post ≡ false) × (T ≡ takenT a b c S)
+    × (l .cars ≡ c)
+
+-- What lets e, then f be done as f, then e: they are of different zones; and a receipt f does not take what e sent, since f counts
+-- as before, and e, if it sends on f's channel, as after.
+abbrev pub Apart : Event → Event → Type 0
+Apart (sending a b c m) (sending x y d n) = a ≢ x
+Apart (sending a b c m) (receiving x y d n) = (a ≢ y) × (n ≡ false) × (a ≡ x → m ≡ true)
+Apart (receiving a b c m) (sending x y d n) = b ≢ x
+Apart (receiving a b c m) (receiving x y d n) = b ≢ y
+
+pub tagged≡ : (S T : TaggedPark) → ((k : ℕ) → S .stock k ≡ T .stock k) → ((i j : ℕ) → S .channel i j ≡ T .channel i j) → S ≡ T
+tagged≡ S T p q = λ i. record { stock = λ k. p k i; channel = λ x y. q x y i }
+
+ne-sym : (a b : ℕ) → a ≢ b → b ≢ a
+ne-sym a b ne e = ne (sym e)
+
+-- tail and join agree at a channel that is not empty.
+tail-join : (l : List Tagged) (z h : Tagged) (t : List Tagged) → l ≡ h ∷ t → tail (join z l) ≡ join z (tail l)
+tail-join [] z h t e = cc
+tail-join (x ∷ l) z h t e = refl
+
+handed-handed : (a b c : ℕ) (m : Bool) (x y d : ℕ) (n : Bool) (S : TaggedPark) → a ≢ x
+    → handedT x y d n (handedT a b c m S) ≡ handedT a b c m (handedT x y d n S)
+handed-handed a b c m x y d n S ne = tagged≡ _ _
+    (λ k. on-apart (eqb k a) (eqb k x) _ _ (S .stock k) (apart a x ne k))
+    (λ i j. on-apart (eqb i a && eqb j b) (eqb i x && eqb j y) _ _ (S .channel i j) (apart-senders a b x y ne i j))
+
+taken-taken : (a b c x y d : ℕ) (S : TaggedPark) → b ≢ y → takenT x y d (takenT a b c S) ≡ takenT a b c (takenT x y d S)
+taken-taken a b c x y d S ne = tagged≡ _ _
+    (λ k. on-apart (eqb k b) (eqb k y) _ _ (S .stock k) (apart b y ne k))
+    (λ i j. on-apart (eqb i a && eqb j b) (eqb i x && eqb j y) _ _ (S .channel i j) (apart-receivers a b x y ne i j))
+
+taken-handed : (a b c : ℕ) (m : Bool) (x y d : ℕ) (S : TaggedPark) (l : Tagged) (r : List Tagged) → a ≢ y → S .channel x y ≡ l ∷ r
+    → takenT x y d (handedT a b c m S) ≡ handedT a b c m (takenT x y d S)
+taken-handed a b c m x y d S l r ne e = tagged≡ _ _
+    (λ k. on-apart (eqb k a) (eqb k y) _ _ (S .stock k) (apart a y ne k))
+    (λ i j. on-swap-at (eqb i a && eqb j b) (eqb i x && eqb j y) _ _ (S .channel i j)
+    (λ t. let h = both-true i x j y t in tail-join (S .channel i j) _ l r (cc)))
+
+-- The first message of a channel to which one sent after was joined, where the message taken was sent before.
+first-message : (p : Bool) (s : List Tagged) (z l : Tagged) (r : List Tagged) → (p ≡ true → z .post ≡ true) → l .post ≡ false
+    → on p (join z) s ≡ l ∷ r → (r′ : List Tagged) × (s ≡ l ∷ r′)
+first-message false s z l r post pre e = (r, e)
+first-message true [] z l r post pre e = let q : true ≡ false = cc (post refl) in absurd (true≢false q)
+first-message true (x ∷ s) z l r post pre e = (s, cc)
+
+join-cons : (p : Bool) (z l : Tagged) (r : List Tagged) → on p (join z) (l ∷ r) ≡ l ∷ on p (join z) r
+join-cons true z l r = refl
+join-cons false z l r = refl
+
+-- The exchange of two events.
+swap : (e f : Event) (S T U : TaggedPark) → Apart e f → Step e S T → Step f T U → (T′ : TaggedPark) × Step f S T′ × Step e T′ U
+swap (sending a b c m) (sending x y d n) S T U ne s t =
+    let q : T .stock x ≡ S .stock x = ap (λ (Y : TaggedPark). Y .stock x) (s .1)
+    ∙ on-false (eqb x a) _ _ (ne-eqb x a (ne-sym a x ne)) in
+    let q′ : (handedT x y d n S) .stock a ≡ S .stock a = on-false (eqb a x) _ _ (ne-eqb a x ne) in (
+      handedT x y d n S,
+      (rw q at (t .0), refl),
+      (rw q′ (s .0), t .1 ∙ ap (handedT x y d n) (s .1) ∙ handed-handed a b c m x y d n S ne),
+    )
+swap (sending a b c m) (receiving x y d n) S T U ne s t =
+    let q : on (eqb x a && eqb y b) _ (S .channel x y) ≡ t .0 ∷ t .1 = sym (ap (λ (Y : TaggedPark). Y .channel x y) (s .1))
+    ∙ t .2 in
+    let r = first-message (eqb x a && eqb y b) (S .channel x y) _ (t .0) (t .1) (λ h. ne .2 (sym (both-true x a y b h .0)))
+    (t .3 (ne .1)) q in
+    let q′ : (takenT x y d S) .stock a ≡ S .stock a = on-false (eqb a y) _ _ (ne-eqb a y (ne .0)) in (
+      takenT x y d S,
+      (t .0, r .0, r .1, t .3, refl, t .5),
+      (rw q′ (s .0), t .4 ∙ ap (takenT x y d) (s .1) ∙ taken-handed a b c m x y d S (t .0) (r .0) (ne .0) (r .1)),
+    )
+swap (receiving a b c m) (sending x y d n) S T U ne s t =
+    let q : T .stock x ≡ S .stock x = ap (λ (Y : TaggedPark). Y .stock x) (s .4)
+    ∙ on-false (eqb x b) _ _ (ne-eqb x b (ne-sym b x ne)) in (
+      handedT x y d n S,
+      (rw q at (t .0), refl),
+      (
+        s .0,
+        on (eqb a x && eqb b y) (join (tagged d n)) (s .1),
+        ap (on (eqb a x && eqb b y) _) (s .2) ∙ join-cons (eqb a x && eqb b y) _ (s .0) (s .1),
+        s .3,
+        t .1 ∙ ap (handedT x y d n) (s .4) ∙ sym (taken-handed x y d n a b c S (s .0) (s .1) (ne-sym b x ne) (s .2)),
+        s .5,
+      ),
+    )
+swap (receiving a b c m) (receiving x y d n) S T U ne s t =
+    let q : S .channel x y ≡ t .0 ∷ t .1
+    = sym (ap (λ (Y : TaggedPark). Y .channel x y) (s .4)
+    ∙ on-false (eqb x a && eqb y b) _ _ (other-receiver a b x y (ne-sym b y ne))) ∙ t .2 in
+    let q′ : (takenT x y d S) .channel a b ≡ s .0 ∷ s .1 = on-false (eqb a x && eqb b y) _ _ (other-receiver x y a b ne) ∙ s .2 in (
+      takenT x y d S,
+      (t .0, t .1, q, t .3, refl, t .5),
+      (s .0, s .1, q′, s .3, t .4 ∙ ap (takenT x y d) (s .4) ∙ taken-taken a b c x y d S ne, s .5),
+    )
+
+-- Events one after another, none refused.
+abbrev pub Steps : List Event → TaggedPark → TaggedPark → Type 0
+Steps [] S T = S ≡ T
+Steps (e ∷ es) S U = (T : TaggedPark) × Step e S T × Steps es T U
+
+pub steps-join : (es : List Event) (e : Event) (S T U : TaggedPark) → Steps es S T → Step e T U → Steps (join e es) S U
+steps-join [] e S T U s t = (U, subst (λ (Y : TaggedPark). Step e Y U) (sym s) t, refl)
+steps-join (x ∷ es) e S T U s t = (s .0, s .1, steps-join es e (s .0) T U (s .2) t)
+
+-- f, done after the events es, may be done before them.
+pub forward : (es : List Event) (f : Event) (S T U : TaggedPark) → All (λ e. Apart e f) es → Steps es S T → Step f T U
+    → (S′ : TaggedPark) × Step f S S′ × Steps es S′ U
+forward [] f S T U h s t = (U, subst (λ (Y : TaggedPark). Step f Y U) (sym s) t, refl)
+forward (e ∷ es) f S T U h s t =
+    let r = forward es f (s .0) T U (h .1) (s .2) t in
+    let w = swap e f S (s .0) (r .0) (h .0) (s .1) (r .1) in
+    (w .0, w .1, (r .0, w .2, r .2))

@@ -1,0 +1,151 @@
+-- What a yes to question 1 says of a run's parts. Assumes nothing.
+use mathlib.Core.Path.{_≡_, refl, sym, _∙_, ap, subst}
+use mathlib.Core.Bool.{Bool, true, false, _&&_, _||_, not, cond, false≢true}
+use mathlib.Core.Logic.{_≢_, _⊎_, inl, inr, ⊎-elim}
+use mathlib.Core.List.{List, [], _∷_, map}
+use Prim.Native.Nat.{ℕ, zero, suc, _+_, _-_, _*_, _/_, _%_, _^_, _<_, _≤_}
+use native.Mathlib.Nat.{eq-or-lt-of-le, le-of-suc-le-suc}
+use native.Mathlib.Omega.{arith}
+use lib.Dec.{leb, ltb, eqb}
+use lib.ListN.{getD, take, drop}
+use lib.Pow.{pow-pos, pow-mono}
+use lib.Seq.{getD-take, getD-drop}
+use borrow.Author.Tests.{leb-true, ltb-true, lt-ltb, ne-eqb}
+use Rattle.rules.specs.Questions.{isCount, isOn}
+use Rattle.rules.specs.Sets.{within}
+use Rattle.rules.specs.Site.{Item, message, request}
+use Rattle.rules.specs.declared.Local.{Local}
+use Rattle.rules.proofs.QuestionLaws.{count-low, count-high}
+use Rattle.rules.proofs.Tests.{and-left, and-right}
+use Rattle.channel.specs.Words.{itemOf, carsIn, setIn}
+use Rattle.channel.specs.Channels.{place, lenOf, wordsOn, itemsOn, firstOf}
+use Rattle.channel.specs.declared.Channels.{Channels}
+use Rattle.run.specs.Below.{allBelow, sumBelow}
+use Rattle.run.specs.State.{zoneAt, isChannel, zoneSound, zonesSound, setsWithin, channelSound, channelsSound, carsOf, stocks, carsOnChannels, partsSound}
+
+-- A test that every number below n passes, and a sum over them, at one number.
+pub all-at : (n : ℕ) (f : ℕ → Bool) → allBelow n f ≡ true → (i : ℕ) → i < n → f i ≡ true
+all-at zero f e i h = absurd (omega arith)
+all-at (suc n) f e i h =
+    ⊎-elim (λ (q : i ≡ n). ap f q ∙ and-right (allBelow n f) (f n) e) (λ (q : i < n). all-at n f (and-left (allBelow n f) (f n) e) i q)
+    (eq-or-lt-of-le (le-of-suc-le-suc h))
+
+pub sum-at : (n : ℕ) (f : ℕ → ℕ) (i : ℕ) → i < n → f i ≤ sumBelow n f
+sum-at zero f i h = absurd (omega arith)
+sum-at (suc n) f i h =
+    ⊎-elim (λ (q : i ≡ n). let e = ap f q in omega arith) (λ (q : i < n). let s = sum-at n f i q in omega arith)
+    (eq-or-lt-of-le (le-of-suc-le-suc h))
+
+-- The channel of two different zones.
+pub channel-at : (count a b : ℕ) → count ≤ 8 → a < count → b < count → a ≢ b → isChannel count (place a b) ≡ true
+unfolding isChannel
+channel-at count a b c ha hb ne =
+    let d : (a * 8 + b) / 8 ≡ a = omega arith in
+    let m : (a * 8 + b) % 8 ≡ b = omega arith in
+    rw (d, m, lt-ltb a count ha, lt-ltb b count hb, ne-eqb a b ne)
+
+pub place-lt : (count a b : ℕ) → count ≤ 8 → a < count → b < count → place a b < 64
+place-lt count a b c ha hb = omega arith
+
+-- The first of some words.
+first-cars : (ws : List ℕ) → carsIn (itemOf (getD ws 0 0)) ≤ carsOf (map itemOf ws)
+unfolding itemOf
+first-cars [] = omega arith
+first-cars (w ∷ ws) = omega arith
+
+first-set : (n : ℕ) (ws : List ℕ) → setsWithin n (map itemOf ws) ≡ true → within (setIn (itemOf (getD ws 0 0))) n ≡ true
+unfolding itemOf
+first-set n [] e = lt-ltb 0 (2 ^ n) (pow-pos n)
+first-set n (w ∷ ws) e = and-left (within (setIn (itemOf w)) n) (setsWithin n (map itemOf ws)) e
+
+pub first-word : (l : Channels) (k : ℕ) → 0 < lenOf l k → getD (wordsOn l k) 0 0 ≡ firstOf l k
+first-word l k h =
+    let z : k * 16 + 0 ≡ k * 16 = omega arith in
+    getD-take (lenOf l k) (take 16 (drop (k * 16) (l .items))) 0 0 h ∙ getD-take 16 (drop (k * 16) (l .items)) 0 0 (omega arith)
+    ∙ getD-drop (k * 16) (l .items) 0 0 ∙ ap (λ (j : ℕ). getD (l .items) j 0) z
+
+-- A zone's stock and a channel's cars within the sum of question 1.
+pub stock-le : (count : ℕ) (zones : List Local) (i : ℕ) → i < count → zoneAt zones i .stock ≤ stocks count zones
+unfolding stocks
+stock-le count zones i h = sum-at count (λ i. zoneAt zones i .stock) i h
+
+at-channel : (b : Bool) (x n : ℕ) → b ≡ true → cond b x 0 ≤ n → x ≤ n
+at-channel b x n e h = rw e at h
+
+pub cars-le : (count : ℕ) (l : Channels) (k : ℕ) → k < 64 → isChannel count k ≡ true → carsOf (itemsOn l k) ≤ carsOnChannels count l
+unfolding carsOnChannels
+cars-le count l k h e =
+    at-channel (isChannel count k) (carsOf (itemsOn l k)) _ e (sum-at 64 (λ k. cond (isChannel count k) (carsOf (itemsOn l k)) 0) k h)
+
+module _ (count records : ℕ) (zones : List Local) (l : Channels) (sound : partsSound count records zones l ≡ true) where
+  front : isCount count && leb records 1000 && zonesSound count records zones && channelsSound count l ≡ true
+  unfolding partsSound
+  front = and-left (isCount count && leb records 1000 && zonesSound count records zones && channelsSound count l) _ sound
+
+  three : isCount count && leb records 1000 && zonesSound count records zones ≡ true
+  three = and-left (isCount count && leb records 1000 && zonesSound count records zones) _ front
+
+  two : isCount count && leb records 1000 ≡ true
+  two = and-left (isCount count && leb records 1000) _ three
+
+  pub sound-count : isCount count ≡ true
+  sound-count = and-left (isCount count) _ two
+
+  pub sound-low : 2 ≤ count
+  sound-low = count-low count sound-count
+
+  pub sound-high : count ≤ 8
+  sound-high = count-high count sound-count
+
+  pub sound-records : records ≤ 1000
+  sound-records = leb-true records 1000 (and-right (isCount count) (leb records 1000) two)
+
+  sound-zone : (i : ℕ) → i < count → zoneSound count records (zoneAt zones i) ≡ true
+  unfolding zonesSound
+  sound-zone i h =
+      all-at count (λ i. zoneSound count records (zoneAt zones i)) (and-right (isCount count && leb records 1000) (zonesSound count records zones) three) i h
+
+  pub sound-events : (i : ℕ) → i < count → zoneAt zones i .events ≤ records
+  unfolding zoneSound
+  sound-events i h = leb-true (zoneAt zones i .events) records (and-left (leb (zoneAt zones i .events) records) _ (sound-zone i h))
+
+  pub sound-deps : (i : ℕ) → i < count → zoneAt zones i .deps < 2 ^ count
+  unfolding zoneSound
+  sound-deps i h =
+      ltb-true (zoneAt zones i .deps) (2 ^ count) (and-right (leb (zoneAt zones i .events) records) (within (zoneAt zones i .deps) count) (sound-zone i h))
+
+  sound-channel : (k : ℕ) → k < 64 → isChannel count k ≡ true → channelSound count l k ≡ true
+  unfolding channelsSound
+  sound-channel k h e =
+      let q : not (isChannel count k) || channelSound count l k ≡ true = all-at 64 (λ k. not (isChannel count k) || channelSound count l k)
+      (and-right (isCount count && leb records 1000 && zonesSound count records zones) (channelsSound count l) front) k h in
+      rw e at q
+
+  pub sound-length : (k : ℕ) → k < 64 → isChannel count k ≡ true → lenOf l k ≤ 16
+  unfolding channelSound
+  sound-length k h e = leb-true (lenOf l k) 16 (and-left (leb (lenOf l k) 16) (setsWithin count (itemsOn l k)) (sound-channel k h e))
+
+  pub sound-sets : (k : ℕ) → k < 64 → isChannel count k ≡ true → setsWithin count (itemsOn l k) ≡ true
+  unfolding channelSound
+  sound-sets k h e = and-right (leb (lenOf l k) 16) (setsWithin count (itemsOn l k)) (sound-channel k h e)
+
+  pub sound-first : (k : ℕ) → k < 64 → isChannel count k ≡ true → 0 < lenOf l k → setIn (itemOf (firstOf l k)) < 2 ^ count
+  sound-first k h e n =
+      let q = first-set count (wordsOn l k) (sound-sets k h e) in
+      ltb-true (setIn (itemOf (firstOf l k))) (2 ^ count) (rw (first-word l k n) at q)
+
+  pub sound-total : stocks count zones + carsOnChannels count l ≤ 65535
+  unfolding partsSound
+  sound-total =
+      leb-true (stocks count zones + carsOnChannels count l) 65535
+      (and-right (isCount count && leb records 1000 && zonesSound count records zones && channelsSound count l) _ sound)
+
+  -- A zone has room for what stands first on a channel: the sum of question 1 has both.
+  pub sound-room : (i k : ℕ) → i < count → k < 64 → isChannel count k ≡ true → 0 < lenOf l k
+      → zoneAt zones i .stock + carsIn (itemOf (firstOf l k)) ≤ 65535
+  sound-room i k hi hk e n =
+      let s = stock-le count zones i hi in
+      let t = cars-le count l k hk e in
+      let f : carsIn (itemOf (firstOf l k)) ≤ carsOf (itemsOn l k) = rw (first-word l k n) at (first-cars (wordsOn l k)) in
+      let w = sound-total in
+      omega arith

@@ -1,0 +1,6 @@
+pub mod Below
+pub mod Layout
+pub mod State
+pub mod Calls
+pub mod Model
+pub mod Lists

@@ -1,0 +1,77 @@
+-- Lists of calls on one run: "The first gets the run that the opening handed back, each later one the run that the call before it handed
+-- back, after a refusal too."
+use mathlib.Core.Bool.{Bool, true, false, cond, _&&_}
+use mathlib.Core.List.{List, [], _∷_, _++_}
+use Prim.Native.Nat.{ℕ}
+use lib.Dec.{eqb}
+use Rattle.rules.specs.Change.{cons-if}
+use Rattle.rules.specs.Questions.{index}
+use Rattle.rules.specs.Site.{Item, message, request, Call, send, receive, start}
+use Rattle.rules.specs.Zone.{isMarked}
+use Rattle.run.specs.Calls.{sendCall, receiveCall, startCall}
+use Rattle.run.specs.Model.{siteOf}
+use Rattle.run.specs.declared.Run.{Run}
+use Rattle.run.specs.declared.Answer.{Answer}
+
+-- A call with any arguments, zones by number.
+pub data SiteCall : Type 0 where
+  Send : (from to cars : ℕ) → SiteCall
+  Receive : (from to : ℕ) → SiteCall
+  Start : (zone : ℕ) → SiteCall
+
+abbrev pub answer : SiteCall → Run → Answer
+answer (Send from to cars) r = sendCall r from to cars
+answer (Receive from to) r = receiveCall r from to
+answer (Start zone) r = startCall r zone
+
+-- The same call with zones by index, as the rules have it.
+abbrev pub callOf : SiteCall → Call
+callOf (Send from to cars) = send (index from) (index to) cars
+callOf (Receive from to) = receive (index from) (index to)
+callOf (Start zone) = start (index zone)
+
+-- "An accepted call is one that answered 0."
+abbrev pub isAccepted : SiteCall → Run → Bool
+isAccepted c r = eqb (answer c r .refusal) 0
+
+-- The run after a list of calls, refused ones included.
+abbrev pub after : List SiteCall → Run → Run
+after [] r = r
+after (c ∷ cs) r = after cs (answer c r .run)
+
+-- The accepted calls of the list, in order.
+abbrev pub acceptedCalls : List SiteCall → Run → List Call
+acceptedCalls [] r = []
+acceptedCalls (c ∷ cs) r = cons-if (isAccepted c r) (callOf c) (acceptedCalls cs (answer c r .run))
+
+-- The messages ("hand-overs") of a list of items.
+abbrev pub messages : List Item → List Item
+messages [] = []
+messages (message cars flag ∷ xs) = message cars flag ∷ messages xs
+messages (request set ∷ xs) = messages xs
+
+-- The message that an accepted call puts on the channel from i to j, and the one that it takes off it; empty where there is none.
+abbrev pub firstMessage : List Item → List Item
+firstMessage [] = []
+firstMessage (message cars flag ∷ xs) = message cars flag ∷ []
+firstMessage (request set ∷ xs) = []
+
+abbrev pub puts : ℕ → ℕ → SiteCall → Run → List Item
+puts i j (Send from to cars) r =
+    cond (eqb i (index from) && eqb j (index to)) (message cars (isMarked (siteOf r .zone i .checkpoint)) ∷ []) []
+puts i j (Receive from to) r = []
+puts i j (Start zone) r = []
+
+abbrev pub takesOff : ℕ → ℕ → SiteCall → Run → List Item
+takesOff i j (Send from to cars) r = []
+takesOff i j (Receive from to) r = cond (eqb i (index from) && eqb j (index to)) (firstMessage (siteOf r .channel i j)) []
+takesOff i j (Start zone) r = []
+
+-- The messages sent on that channel, and those received from it, over a list of calls.
+abbrev pub sentOn : ℕ → ℕ → List SiteCall → Run → List Item
+sentOn i j [] r = []
+sentOn i j (c ∷ cs) r = cond (isAccepted c r) (puts i j c r) [] ++ sentOn i j cs (answer c r .run)
+
+abbrev pub receivedOn : ℕ → ℕ → List SiteCall → Run → List Item
+receivedOn i j [] r = []
+receivedOn i j (c ∷ cs) r = cond (isAccepted c r) (takesOff i j c r) [] ++ receivedOn i j cs (answer c r .run)

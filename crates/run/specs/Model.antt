@@ -1,0 +1,22 @@
+-- A run as a site of the rules: zones and channels that the run's site does not have are those of an opening with stock 0.
+use mathlib.Core.Bool.{Bool, true, false, cond, _&&_}
+use mathlib.Core.List.{List, []}
+use Prim.Native.Nat.{ℕ}
+use lib.Dec.{ltb}
+use lib.ListN.{getD}
+use Rattle.rules.specs.Limits.{mostZones}
+use Rattle.rules.specs.Site.{Site}
+use Rattle.rules.specs.Zone.{opened}
+use Rattle.channel.specs.Channels.{place, itemsOn}
+use Rattle.run.specs.State.{zoneAt, isChannel}
+use Rattle.run.specs.declared.Run.{Run}
+
+abbrev pub siteOf : Run → Site
+siteOf r = record {
+  zone = λ k. cond (ltb k (r .count)) (zoneAt (r .zones) k) (opened k 0);
+  channel = λ i j. cond (ltb j mostZones && isChannel (r .count) (place i j)) (itemsOn (r .channels) (place i j)) [];
+}
+
+-- The opening stocks by index.
+abbrev pub stocksOf : List ℕ → ℕ → ℕ
+stocksOf stocks k = getD stocks k 0
