@@ -75,8 +75,9 @@ fn deps_after(mark: Checkpoint, deps: u8, from: u8, flag: bool) -> u8
     requires { ⌜ from < 8 ⌝ }
     ensures { λ r. ⌜ r ≡ depsAfter mark deps from flag ⌝ }
 {
+    let grown = deps | bit(from);
     match mark {
-        Checkpoint::None => { if flag { deps } else { deps | bit(from) } }
+        Checkpoint::None => { if flag { deps } else { grown } }
         Checkpoint::Mutable(_) => deps,
         Checkpoint::Permanent(_) => deps,
     }
@@ -136,7 +137,9 @@ fn turn(z: Local, kept: Saved, me: u8, set: u8) -> Asked
     ensures { λ r. ⌜ r ≡ turned kept me set z ⌝ }
 {
     let local = permanent(z, kept);
-    let to = z.deps ^ (z.deps & (set | bit(me)));
+    let deps = z.deps;
+    let own = bit(me);
+    let to = deps ^ (deps & (set | own));
     if to == 0 {
         return Asked {
             local,
@@ -147,7 +150,7 @@ fn turn(z: Local, kept: Saved, me: u8, set: u8) -> Asked
     Asked {
         local,
         to,
-        carried: z.deps | set,
+        carried: deps | set,
     }
 }
 

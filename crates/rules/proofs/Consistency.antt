@@ -29,6 +29,15 @@ use Rattle.rules.proofs.Cutting.{parkOf, plain-park, emptyT, inFirst, i
 use Rattle.rules.proofs.Counting.{Fit, Counts, counts-kept, counts-open}
 use Rattle.rules.proofs.Shown.{marked-once, zone-events, starting-initiator, initiator-starting, initiator-events}
 
+same-initiator : {o : Option ℕ} {a b : ℕ} → o ≡ some a → o ≡ some b → a ≡ b
+same-initiator e f = cc
+
+-- A zone that is not shown firm is shown as it was opened.
+not-shown : (c : Checkpoint) (opening : ℕ) → isPermanent c ≡ false → (eventsOf c ≡ 0) × (stockOf c opening ≡ opening)
+not-shown None opening e = (refl, refl)
+not-shown (Mutable s) opening e = (refl, refl)
+not-shown (Permanent s) opening e = absurd (false≢true (sym e))
+
 -- The senders of a zone's receipts in the first part are those that it received from before its checkpoint.
 takes-more : (i j : ℕ) (p : Bool) (e : Event) (l : List Event) → takes i j (map untag l) ≤ takes i j (map untag (cons-if p e l))
 takes-more i j true (sending a b c m) l = omega arith
@@ -209,16 +218,21 @@ module _ (v : ℕ → ℕ) (cs : List Call) (allowed : Allowed cs (openS v)) (co
   recorded a s = ap (λ (t : Site). isPermanent (t .zone a .checkpoint)) (sym now)
       ∙ fresh .begun a (starting-initiator v cs allowed a s)
 
+  one : (a b : ℕ) → Starting cs a → Starting cs b → a ≡ b
+  one a b s t = same-initiator (starting-initiator v cs allowed a s) (starting-initiator v cs allowed b t)
+
   cut : Cut v cs (snapshot v cs)
   cut = record {
     first = cut-at .first;
     second = cut-at .second;
+    others = λ z e. not-shown (run cs (openS v) .zone z .checkpoint) (v z) e;
     initiator = (who-started .0, starting (who-started .0) (who-started .1));
+    one-initiator = one;
     has-initiator = recorded;
     closed = cut-at .closed;
     least = λ X starts close z f. cut-at .least X (λ a e. starts a (starting a e)) close z f;
     initiator-events = λ a s. initiator-events v cs allowed a (recorded a s) s;
-    marked-once = marked-once v cs;
+    marking = marked-once v cs;
     zone-events = zone-events v cs allowed;
   }
 

@@ -114,8 +114,11 @@ pub record Cut (v : ℕ → ℕ) (cs : List Call) (r : Snapshot) : Type 1 where
   pub first : replay (inside (r .events) (moves cs (openS v))) (some (emptyPark v)) ≡ some (r .park)
   -- "then all the others from where that ended"; "After the second they equal those of the run after the list".
   pub second : replay (outside (r .events) (moves cs (openS v))) (some (r .park)) ≡ some (present (run cs (openS v)))
+  -- "Any other zone, a provisional one included, has its opening stock and 0 events."
+  pub others : (z : ℕ) → r .recorded z ≡ false → (r .events z ≡ 0) × (r .park .stock z ≡ v z)
   -- "The recorded zones are the smallest set that has the starter and, with each zone, every sender of its inside receipts."
   pub initiator : (a : ℕ) × Starting cs a
+  pub one-initiator : (a b : ℕ) → Starting cs a → Starting cs b → a ≡ b
   pub has-initiator : (a : ℕ) → Starting cs a → r .recorded a ≡ true
   pub closed : (i j : ℕ) → r .recorded j ≡ true → 0 < takes i j (inside (r .events) (moves cs (openS v))) → r .recorded i ≡ true
   pub least : (X : ℕ → Type 0) → ((a : ℕ) → Starting cs a → X a)
@@ -124,5 +127,5 @@ pub record Cut (v : ℕ → ℕ) (cs : List Call) (r : Snapshot) : Type 1 where
   -- "The events shown for the starter are the number of its own events before the accepted start".
   pub initiator-events : (a : ℕ) (s : Starting cs a) → r .events a ≡ own a (moves (s .before) (openS v))
   -- "those for any other recorded zone the number before its mark".
-  pub marked-once : (z : ℕ) → r .recorded z ≡ true → Marking v cs z
+  pub marking : (z : ℕ) → r .recorded z ≡ true → Marking v cs z
   pub zone-events : (z : ℕ) → r .recorded z ≡ true → (m : Marking v cs z) → r .events z ≡ own z (moves (m .before) (openS v))

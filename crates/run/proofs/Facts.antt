@@ -21,15 +21,10 @@ use Rattle.channel.specs.Words.{itemOf, carsIn, setIn}
 use Rattle.channel.specs.Channels.{place, lenOf, wordsOn, itemsOn, firstOf}
 use Rattle.channel.specs.declared.Channels.{Channels}
 use Rattle.run.specs.Below.{allBelow, sumBelow}
+use Rattle.run.proofs.BelowLaws.{all-at}
 use Rattle.run.specs.State.{zoneAt, isChannel, zoneSound, zonesSound, setsWithin, channelSound, channelsSound, carsOf, stocks, carsOnChannels, partsSound}
 
--- A test that every number below n passes, and a sum over them, at one number.
-pub all-at : (n : ℕ) (f : ℕ → Bool) → allBelow n f ≡ true → (i : ℕ) → i < n → f i ≡ true
-all-at zero f e i h = absurd (omega arith)
-all-at (suc n) f e i h =
-    ⊎-elim (λ (q : i ≡ n). ap f q ∙ and-right (allBelow n f) (f n) e) (λ (q : i < n). all-at n f (and-left (allBelow n f) (f n) e) i q)
-    (eq-or-lt-of-le (le-of-suc-le-suc h))
-
+-- A sum over the numbers below n, at one number.
 pub sum-at : (n : ℕ) (f : ℕ → ℕ) (i : ℕ) → i < n → f i ≤ sumBelow n f
 sum-at zero f i h = absurd (omega arith)
 sum-at (suc n) f i h =

@@ -1,1 +1,14 @@
+pub mod Outcome
+pub mod Answers
+pub mod Whole
+pub mod BelowLaws
+pub mod Parts
+pub mod SetBounds
+pub mod Refine
+pub mod Reach
+pub mod Conserve
+pub mod Sound
+pub mod Fifo
+pub mod Journal
+pub mod Accepts
 pub mod Facts

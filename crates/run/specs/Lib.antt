@@ -4,3 +4,4 @@ pub mod State
 pub mod Calls
 pub mod Model
 pub mod Lists
+pub mod Claims

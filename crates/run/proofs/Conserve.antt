@@ -1,0 +1,157 @@
+-- Stocks plus cars on channels stay the same by any list of calls, and are what the opening brought. Assumes nothing.
+use mathlib.Core.Path.{_≡_, refl, sym, _∙_, ap, ap₂, subst}
+use mathlib.Core.Bool.{Bool, true, false, _&&_, not}
+use mathlib.Core.Logic.{_≢_, _⊎_, inl, inr}
+use mathlib.Core.List.{List, [], _∷_, tail}
+use Prim.Native.Nat.{ℕ, _+_, _-_, _*_, _/_, _%_, _≤_, _<_}
+use native.Mathlib.Omega.{arith}
+use lib.Dec.{eqb}
+use lib.ListN.{length}
+use borrow.Author.Tests.{ne-eqb}
+use Rattle.rules.specs.Change.{on, join}
+use Rattle.rules.specs.Sets.{has}
+use Rattle.rules.specs.Zone.{isPermanent, requested, started, asked, carried}
+use Rattle.rules.specs.Site.{Item, message, request, Site, Call, send, receive, start, popS, askS, turnS, stepS, takeS}
+use Rattle.rules.specs.Cut.{May}
+use Rattle.rules.specs.declared.Local.{Local}
+use Rattle.rules.proofs.Guarded.{on-same, on-same-at}
+use Rattle.rules.proofs.Tests.{both-true, eqb-refl}
+use Rattle.channel.specs.Channels.{place}
+use Rattle.channel.specs.Words.{carsIn}
+use Rattle.run.specs.Below.{sum}
+use Rattle.run.specs.State.{carsOf, openedRun}
+use Rattle.run.specs.Calls.{openCall}
+use Rattle.run.specs.Model.{siteOf}
+use Rattle.run.specs.Lists.{SiteCall, answer, callOf, after}
+use Rattle.run.specs.Claims.{WholeRun, Typed, AllTyped, allCars}
+use Rattle.run.specs.declared.Run.{Run}
+use Rattle.run.specs.declared.Answer.{Answer}
+use Rattle.run.proofs.Outcome.{Pair, Sited, sited, granted, Passed, Refused, outcome, is-open}
+use Rattle.run.proofs.BelowLaws.{sum-same, sum-changed, sum-list}
+use Rattle.run.proofs.Parts.{stocksS, carsS, stocks-are, cars-are, parts}
+use Rattle.run.proofs.Whole.{call-whole, open-whole}
+use Rattle.run.proofs.Refine.{refine, opened-site}
+
+cars-join : (x : Item) (xs : List Item) → carsOf (join x xs) ≡ carsOf xs + carsIn x
+cars-join x [] = omega arith
+cars-join x (y ∷ ys) = let q = cars-join x ys in omega arith
+
+-- Only zone a differs, or only the channel from a to b.
+zone-sum : (n a : ℕ) (s t : Site) → a < n → ((k : ℕ) → eqb k a ≡ false → t .zone k .stock ≡ s .zone k .stock)
+    → stocksS n t + s .zone a .stock ≡ stocksS n s + t .zone a .stock
+zone-sum n a s t h e = sum-changed n (λ k. s .zone k .stock) (λ k. t .zone k .stock) a h (λ k b d. e k (ne-eqb k a d))
+
+channel-sum : (a b : ℕ) (s t : Site) → a < 8 → b < 8
+    → ((i j : ℕ) → eqb i a && eqb j b ≡ false → carsOf (t .channel i j) ≡ carsOf (s .channel i j))
+    → carsS t + carsOf (s .channel a b) ≡ carsS s + carsOf (t .channel a b)
+unfolding carsS
+channel-sum a b s t ha hb e =
+    let x : (a * 8 + b) / 8 ≡ a = omega arith in
+    let y : (a * 8 + b) % 8 ≡ b = omega arith in
+    subst (λ (i : ℕ). carsS t + carsOf (s .channel i b) ≡ carsS s + carsOf (t .channel i b)) x
+    (subst (λ (j : ℕ). carsS t + carsOf (s .channel (place a b / 8) j) ≡ carsS s + carsOf (t .channel (place a b / 8) j)) y
+    (sum-changed 64 (λ k. carsOf (s .channel (k / 8) (k % 8))) (λ k. carsOf (t .channel (k / 8) (k % 8))) (place a b) (omega arith)
+    (λ k h d. e (k / 8) (k % 8) (other k d))))
+  where
+    other : (k : ℕ) → k ≢ place a b → eqb (k / 8) a && eqb (k % 8) b ≡ false
+    other k d = go (eqb (k / 8) a && eqb (k % 8) b) refl
+      where
+        go : (p : Bool) → eqb (k / 8) a && eqb (k % 8) b ≡ p → p ≡ false
+        go true e = let (x, y) = both-true (k / 8) a (k % 8) b e in absurd (d (omega arith))
+        go false e = refl
+
+-- No stock differs, or the cars of no channel.
+stocks-same : (n : ℕ) (s t : Site) → ((k : ℕ) → t .zone k .stock ≡ s .zone k .stock) → stocksS n t ≡ stocksS n s
+stocks-same n s t e = sum-same n (λ k. s .zone k .stock) (λ k. t .zone k .stock) (λ k h. e k)
+
+cars-same : (s t : Site) → ((i j : ℕ) → carsOf (t .channel i j) ≡ carsOf (s .channel i j)) → carsS t ≡ carsS s
+unfolding carsS
+cars-same s t e = sum-same 64 (λ k. carsOf (s .channel (k / 8) (k % 8))) (λ k. carsOf (t .channel (k / 8) (k % 8))) (λ k h. e (k / 8) (k % 8))
+
+-- The cars of a site: its stocks and what is on its channels.
+abbrev total : ℕ → Site → ℕ
+total n s = stocksS n s + carsS s
+
+-- Requests carry no cars.
+ask-keeps : (n b to set : ℕ) (g : Local → Local) (s : Site) → ((z : Local) → g z .stock ≡ z .stock)
+    → total n (askS b g to set s) ≡ total n s
+ask-keeps n b to set g s e = ap₂ _+_ (stocks-same n s (askS b g to set s) zone) (cars-same s (askS b g to set s) channel)
+  where
+    zone : (k : ℕ) → on (eqb k b) g (s .zone k) .stock ≡ s .zone k .stock
+    zone k = on-same (λ (z : Local). z .stock) (eqb k b) g (s .zone k) (e (s .zone k))
+
+    channel : (i j : ℕ) → carsOf (on (eqb i b && has to j) (join (request set)) (s .channel i j)) ≡ carsOf (s .channel i j)
+    channel i j =
+        on-same carsOf (eqb i b && has to j) (join (request set)) (s .channel i j) (cars-join (request set) (s .channel i j) ∙ omega arith)
+
+pop-keeps : (n a b set : ℕ) (rest : List Item) (s : Site) → s .channel a b ≡ request set ∷ rest → total n (popS a b s) ≡ total n s
+pop-keeps n a b set rest s e = ap (λ (x : ℕ). stocksS n s + x) (cars-same s (popS a b s) channel)
+  where
+    channel : (i j : ℕ) → carsOf (on (eqb i a && eqb j b) tail (s .channel i j)) ≡ carsOf (s .channel i j)
+    channel i j = on-same-at carsOf (eqb i a && eqb j b) tail (s .channel i j) at
+      where
+        at : eqb i a && eqb j b ≡ true → carsOf (tail (s .channel i j)) ≡ carsOf (s .channel i j)
+        at t = let (x, y) = both-true i a j b t in rw (x, y, e) (omega arith)
+
+module _ (n : ℕ) (most : n ≤ 8) (a b : ℕ) (p : Pair n a b) (s : Site) where
+  send-keeps : (cars : ℕ) → cars ≤ s .zone a .stock → total n (stepS (send a b cars) s) ≡ total n s
+  send-keeps cars m =
+      let t = stepS (send a b cars) s in
+      let z = zone-sum n a s t (p .from) (λ k e. rw e) in
+      let c = channel-sum a b s t (omega (arith, p .from)) (omega (arith, p .to)) (λ i j e. rw e) in
+      let x : t .zone a .stock ≡ s .zone a .stock - cars = rw (eqb-refl a) in
+      let y : carsOf (t .channel a b) ≡ carsOf (s .channel a b) + cars = rw (eqb-refl a, eqb-refl b) (cars-join _ (s .channel a b)) in
+      omega arith
+
+  take-keeps : (xs : List Item) → s .channel a b ≡ xs → total n (takeS a b xs s) ≡ total n s
+  take-keeps [] e = refl
+  take-keeps (message cars flag ∷ rest) e =
+      let t = takeS a b (message cars flag ∷ rest) s in
+      let z = zone-sum n b s t (p .to) (λ k e. rw e) in
+      let c = channel-sum a b s t (omega (arith, p .from)) (omega (arith, p .to)) (λ i j e. rw e) in
+      let x : t .zone b .stock ≡ s .zone b .stock + cars = rw (eqb-refl b) in
+      let y : carsOf (t .channel a b) ≡ carsOf rest = rw (eqb-refl a, eqb-refl b, e) in
+      let v : carsOf (s .channel a b) ≡ cars + carsOf rest = rw e in
+      omega arith
+  take-keeps (request set ∷ rest) e =
+      on-same (total n) (not (isPermanent (s .zone b .checkpoint))) (turnS b set) (popS a b s)
+      (ask-keeps n b (asked b set (s .zone b)) (carried set (s .zone b)) requested (popS a b s) (λ z. refl))
+      ∙ pop-keeps n a b set rest s e
+
+pub step-keeps : (n : ℕ) (c : Call) (s : Site) → n ≤ 8 → Sited n c → May c s → total n (stepS c s) ≡ total n s
+step-keeps n (send a b cars) s most p m = send-keeps n most a b p s cars m
+step-keeps n (receive a b) s most p m = take-keeps n most a b p s (s .channel a b) refl
+step-keeps n (start a) s most p m = ask-keeps n a _ _ started s (λ z. refl)
+
+-- The cars of a run are those of its site.
+pub cars-at : (r : Run) → allCars r ≡ stocksS (r .count) (siteOf r) + carsS (siteOf r)
+cars-at r = ap₂ _+_ (stocks-are r) (cars-are r)
+
+pub call-conserves : (c : SiteCall) (r : Run) → WholeRun r → Typed c → allCars (answer c r .run) ≡ allCars r
+call-conserves c r w t = go (outcome c r)
+  where
+    go : Passed c r ⊎ Refused c r → allCars (answer c r .run) ≡ allCars r
+    go (inl p) =
+        let e = ap (λ (x : Answer). x .run) (p .result) in
+        let (q, m) = refine c r w t (p .said) in
+        ap allCars e ∙ cars-at (granted c r .run) ∙ ap (total (r .count)) (sym (ap siteOf e) ∙ q)
+        ∙ step-keeps (r .count) (callOf c) (siteOf r) (parts r (p .sound) .most) (sited c r p) m ∙ sym (cars-at r)
+    go (inr p) = ap allCars (p .kept)
+
+pub conserve-from : (cs : List SiteCall) (r : Run) → WholeRun r → AllTyped cs → allCars (after cs r) ≡ allCars r
+conserve-from [] r w t = refl
+conserve-from (c ∷ cs) r w t = conserve-from cs (answer c r .run) (call-whole c r w) (t .1) ∙ call-conserves c r w (t .0)
+
+pub opened-cars : (count : ℕ) (stocks : List ℕ) → count ≤ 8 → length stocks ≡ count → allCars (openedRun count stocks) ≡ sum stocks
+unfolding openedRun carsS
+opened-cars count stocks m h =
+    cars-at (openedRun count stocks) ∙ ap (total count) (opened-site count stocks m h)
+    ∙ rw (← h) (ap (λ (n : ℕ). n + 0) (sum-list stocks) ∙ omega arith)
+
+-- From an accepted opening, after any list of calls.
+pub conserve : (count : ℕ) (stocks : List ℕ) (cs : List SiteCall) → openCall count stocks .refusal ≡ 0 → AllTyped cs
+    → allCars (after cs (openCall count stocks .run)) ≡ sum stocks
+conserve count stocks cs e t =
+    let o = is-open count stocks e in
+    conserve-from cs (openCall count stocks .run) (open-whole count stocks) t
+    ∙ ap (λ (x : Answer). allCars (x .run)) (o .result) ∙ opened-cars count stocks (o .most) (o .lengths)

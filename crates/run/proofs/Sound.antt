@@ -1,0 +1,257 @@
+-- A sound run stays sound by any list of calls, refused ones included, and every opening hands back a sound run. Assumes nothing.
+use mathlib.Core.Path.{_≡_, refl, sym, _∙_, ap, subst}
+use mathlib.Core.Bool.{Bool, true, false, _&&_, _||_, not}
+use mathlib.Core.Logic.{_⊎_, inl, inr}
+use mathlib.Core.List.{List, [], _∷_, tail}
+use Prim.Native.Nat.{ℕ, zero, suc, _+_, _-_, _^_, _≤_, _<_}
+use native.Mathlib.Omega.{arith}
+use native.Mathlib.Nat.{not-suc-le-zero}
+use lib.Dec.{eqb, ltb}
+use lib.ListN.{length}
+use lib.Bits.{or-lt}
+use lib.Pow.{pow-pos, pow-lt}
+use borrow.Author.Tests.{eqb-true, ltb-true, lt-ltb}
+use Rattle.rules.specs.Change.{on, join}
+use Rattle.rules.specs.Limits.{mostCars, places}
+use Rattle.rules.specs.Questions.{index}
+use Rattle.rules.specs.Sets.{has, nobody, only}
+use Rattle.rules.specs.Zone.{isPermanent, sent, received, started, requested, depsAfter, asked, carried}
+use Rattle.rules.specs.Site.{Item, message, request, Site, Call, send, receive, start, popS, askS, turnS, stepS, takeS}
+use Rattle.rules.specs.declared.Local.{Local}
+use Rattle.rules.specs.declared.Checkpoint.{Checkpoint}
+use Rattle.rules.specs.declared.Checkpoint.the-variants.{None, Mutable, Permanent}
+use Rattle.rules.proofs.Guarded.{on-keeps}
+use Rattle.rules.proofs.Tests.{and-left, and-right, both-true}
+use Rattle.channel.specs.Words.{setIn}
+use Rattle.channel.specs.Channels.{Whole, place, lenOf, isFree, pushed, popped, freeBelow, allFree, requestedAll}
+use Rattle.channel.specs.declared.Channels.{Channels}
+use Rattle.channel.proofs.View.{pop-whole, lens-pushed, lens-popped, requested-lens}
+use Rattle.run.specs.Below.{sum}
+use Rattle.run.specs.State.{setsWithin, isSound, openedRun}
+use Rattle.run.specs.Calls.{openCall}
+use Rattle.run.specs.Model.{siteOf}
+use Rattle.run.specs.Lists.{SiteCall, Send, Receive, Start, answer, callOf, after}
+use Rattle.run.specs.Claims.{WholeRun, Typed, AllTyped, allCars}
+use Rattle.run.specs.declared.Run.{Run}
+use Rattle.run.specs.declared.Answer.{Answer}
+use Rattle.run.proofs.Outcome.{Sited, sited, Asks, channelsAfter, granted, Passed, Refused, outcome, Opened, NotOpened, open-outcome}
+use Rattle.run.proofs.BelowLaws.{split}
+use Rattle.run.proofs.Parts.{onSite, between, on-site, stocksS, carsS, SoundRun, parts, sound}
+use Rattle.run.proofs.SetBounds.{carried-lt}
+use Rattle.run.proofs.Whole.{call-whole, open-whole}
+use Rattle.run.proofs.Refine.{popped-free, refine, none-at, opened-site}
+use Rattle.run.proofs.Conserve.{cars-at, call-conserves, opened-cars}
+
+-- The rules: a call adds at most one own event to a zone.
+events-step : (c : Call) (s : Site) (k : ℕ) → stepS c s .zone k .events ≤ s .zone k .events + 1
+events-step (send a b cars) s k =
+    on-keeps (λ (z : Local). z .events ≤ s .zone k .events + 1) (eqb k a) (sent cars) (s .zone k) (λ h. omega arith) (omega arith)
+events-step (receive a b) s k = go (s .channel a b)
+  where
+    turned : (set : ℕ) (t : Site) → t .zone k .events ≤ s .zone k .events + 1 → turnS b set t .zone k .events ≤ s .zone k .events + 1
+    turned set t h = on-keeps (λ (z : Local). z .events ≤ s .zone k .events + 1) (eqb k b) requested (t .zone k) (λ h. h) h
+
+    go : (xs : List Item) → takeS a b xs s .zone k .events ≤ s .zone k .events + 1
+    go [] = omega arith
+    go (message cars flag ∷ xs) =
+        on-keeps (λ (z : Local). z .events ≤ s .zone k .events + 1) (eqb k b) (received a cars flag) (s .zone k) (λ h. omega arith)
+        (omega arith)
+    go (request set ∷ xs) =
+        on-keeps (λ (t : Site). t .zone k .events ≤ s .zone k .events + 1) (not (isPermanent (s .zone b .checkpoint))) (turnS b set)
+        (popS a b s) (turned set (popS a b s)) (omega arith)
+events-step (start a) s k =
+    on-keeps (λ (z : Local). z .events ≤ s .zone k .events + 1) (eqb k a) started (s .zone k) (λ h. h) (omega arith)
+
+-- Dependency sets go on naming zones of the site only.
+received-deps : (n from deps : ℕ) (k : Checkpoint) (flag : Bool) → from < n → deps < 2 ^ n → depsAfter k deps from flag < 2 ^ n
+received-deps n from deps None false h d = or-lt n deps (only from) d (pow-lt h)
+received-deps n from deps None true h d = d
+received-deps n from deps (Mutable s) flag h d = d
+received-deps n from deps (Permanent s) flag h d = d
+
+deps-step : (n : ℕ) (c : Call) (s : Site) (k : ℕ) → Sited n c → s .zone k .deps < 2 ^ n → stepS c s .zone k .deps < 2 ^ n
+deps-step n (send a b cars) s k p h = on-keeps (λ (z : Local). z .deps < 2 ^ n) (eqb k a) (sent cars) (s .zone k) (λ h. h) h
+deps-step n (receive a b) s k p h = go (s .channel a b)
+  where
+    turned : (set : ℕ) (t : Site) → t .zone k .deps < 2 ^ n → turnS b set t .zone k .deps < 2 ^ n
+    turned set t h = on-keeps (λ (z : Local). z .deps < 2 ^ n) (eqb k b) requested (t .zone k) (λ h. h) h
+
+    go : (xs : List Item) → takeS a b xs s .zone k .deps < 2 ^ n
+    go [] = h
+    go (message cars flag ∷ xs) =
+        on-keeps (λ (z : Local). z .deps < 2 ^ n) (eqb k b) (received a cars flag) (s .zone k)
+        (received-deps n a (s .zone k .deps) (s .zone k .checkpoint) flag (p .from)) h
+    go (request set ∷ xs) =
+        on-keeps (λ (t : Site). t .zone k .deps < 2 ^ n) (not (isPermanent (s .zone b .checkpoint))) (turnS b set) (popS a b s)
+        (turned set (popS a b s)) h
+deps-step n (start a) s k p h = on-keeps (λ (z : Local). z .deps < 2 ^ n) (eqb k a) started (s .zone k) (λ h. h) h
+
+-- So do the sets of requests.
+within-join : (n : ℕ) (x : Item) (xs : List Item) → setIn x < 2 ^ n → setsWithin n xs ≡ true → setsWithin n (join x xs) ≡ true
+within-join n x [] h e = rw (lt-ltb (setIn x) (2 ^ n) h)
+within-join n x (y ∷ ys) h e =
+    rw (and-left (ltb (setIn y) (2 ^ n)) (setsWithin n ys) e) (within-join n x ys h (and-right (ltb (setIn y) (2 ^ n)) _ e))
+
+within-tail : (n : ℕ) (xs : List Item) → setsWithin n xs ≡ true → setsWithin n (tail xs) ≡ true
+within-tail n [] e = e
+within-tail n (x ∷ xs) e = and-right (ltb (setIn x) (2 ^ n)) _ e
+
+within-first : (n set : ℕ) (xs : List Item) → setsWithin n (request set ∷ xs) ≡ true → set < 2 ^ n
+within-first n set xs e = ltb-true set (2 ^ n) (and-left _ (setsWithin n xs) e)
+
+asked-sets : (n b to set : ℕ) (g : Local → Local) (s : Site) (i j : ℕ) → set < 2 ^ n → setsWithin n (s .channel i j) ≡ true
+    → setsWithin n (askS b g to set s .channel i j) ≡ true
+asked-sets n b to set g s i j h e =
+    on-keeps (λ (xs : List Item). setsWithin n xs ≡ true) (eqb i b && has to j) (join (request set)) (s .channel i j)
+    (within-join n (request set) (s .channel i j) h) e
+
+sets-step : (n : ℕ) (c : Call) (s : Site) → n ≤ 8 → Sited n c → ((k : ℕ) → k < n → s .zone k .deps < 2 ^ n)
+    → ((i j : ℕ) → onSite n i j ≡ true → setsWithin n (s .channel i j) ≡ true)
+    → (i j : ℕ) → onSite n i j ≡ true → setsWithin n (stepS c s .channel i j) ≡ true
+sets-step n (send a b cars) s most p d h i j o =
+    on-keeps (λ (xs : List Item). setsWithin n xs ≡ true) (eqb i a && eqb j b) (join _) (s .channel i j)
+    (within-join n _ (s .channel i j) (pow-pos n)) (h i j o)
+sets-step n (receive a b) s most p d h i j o = go (s .channel a b) refl
+  where
+    popped-sets : setsWithin n (popS a b s .channel i j) ≡ true
+    popped-sets =
+        on-keeps (λ (xs : List Item). setsWithin n xs ≡ true) (eqb i a && eqb j b) tail (s .channel i j)
+        (within-tail n (s .channel i j)) (h i j o)
+
+    go : (xs : List Item) → s .channel a b ≡ xs → setsWithin n (takeS a b xs s .channel i j) ≡ true
+    go [] e = h i j o
+    go (message cars flag ∷ xs) e = popped-sets
+    go (request set ∷ xs) e =
+        let v = within-first n set xs (subst (λ (xs : List Item). setsWithin n xs ≡ true) e
+        (h a b (on-site n a b most (p .from) (p .to) (p .apart)))) in
+        on-keeps (λ (t : Site). setsWithin n (t .channel i j) ≡ true) (not (isPermanent (s .zone b .checkpoint))) (turnS b set)
+        (popS a b s)
+        (asked-sets n b (asked b set (s .zone b)) (carried set (s .zone b)) requested (popS a b s) i j
+        (carried-lt n set (s .zone b) (d b (p .to)) v)) popped-sets
+sets-step n (start a) s most p d h i j o =
+    asked-sets n a (asked a nobody (s .zone a)) (carried nobody (s .zone a)) started s i j
+    (carried-lt n nobody (s .zone a) (d a p) (pow-pos n)) (h i j o)
+
+-- No channel gets more items than it has places.
+free-at : (n : ℕ) (l : Channels) (b to j : ℕ) → freeBelow n l b to ≡ true → j < n → has to j ≡ true → lenOf l (place b j) < places
+free-at zero l b to j f h e = absurd (not-suc-le-zero h)
+free-at (suc n) l b to j f h e = go (λ m. free-at n l b to j (and-left (freeBelow n l b to) last f) m e) (split j n h)
+  where
+    last : Bool
+    last = not (has to n) || isFree l (place b n)
+
+    go : (j < n → lenOf l (place b j) < places) → (j < n) ⊎ (j ≡ n) → lenOf l (place b j) < places
+    go more (inl m) = more m
+    go more (inr m) =
+        let q : has to n ≡ true = ap (has to) (sym m) ∙ e in
+        let g : isFree l (place b n) ≡ true = rw q at (and-right (freeBelow n l b to) last f) in
+        rw m (ltb-true (lenOf l (place b n)) places g)
+
+asked-lens : (l : Channels) (b to set i j : ℕ) → Whole l → b < 8 → allFree l b to ≡ true → j < 8 → lenOf l (place i j) ≤ places
+    → lenOf (requestedAll l b to set) (place i j) ≤ places
+unfolding allFree
+asked-lens l b to set i j w hb f hj h = rw (requested-lens l b to set w hb f i j hj) (go (eqb i b && has to j) refl)
+  where
+    go : (t : Bool) → eqb i b && has to j ≡ t → on t (λ n. n + 1) (lenOf l (place i j)) ≤ places
+    go true e =
+        let x = eqb-true i b (and-left (eqb i b) (has to j) e) in
+        let g = free-at 8 l b to j f hj (and-right (eqb i b) (has to j) e) in
+        rw x (omega arith)
+    go false e = h
+
+pushed-lens : (l : Channels) (a b word i j : ℕ) → Whole l → a < 8 → b < 8 → lenOf l (place a b) < places → j < 8
+    → lenOf l (place i j) ≤ places → lenOf (pushed l (place a b) word) (place i j) ≤ places
+pushed-lens l a b word i j w ha hb f hj h = rw (lens-pushed l a b w ha hb word (lt-ltb _ places f) i j hj) (go (eqb i a && eqb j b) refl)
+  where
+    go : (t : Bool) → eqb i a && eqb j b ≡ t → on t (λ n. n + 1) (lenOf l (place i j)) ≤ places
+    go true e = let (x, y) = both-true i a j b e in rw (x, y) (omega arith)
+    go false e = h
+
+popped-lens : (l : Channels) (a b i j : ℕ) → Whole l → a < 8 → b < 8 → j < 8 → lenOf l (place i j) ≤ places
+    → lenOf (popped l (place a b)) (place i j) ≤ places
+popped-lens l a b i j w ha hb hj h =
+    rw (lens-popped l a b w ha hb i j hj) (on-keeps (λ (n : ℕ). n ≤ places) (eqb i a && eqb j b) (λ n. n - 1) (lenOf l (place i j)) (λ h. omega arith) h)
+
+lens-step : (c : SiteCall) (r : Run) → WholeRun r → SoundRun r → Asks c r → (i j : ℕ) → onSite (r .count) i j ≡ true
+    → lenOf (channelsAfter c r) (place i j) ≤ places
+lens-step (Send from to cars) r w s (p, c, f) i j o =
+    pushed-lens (r .channels) (index from) (index to) _ i j (w .channels) (omega (arith, p .from, s .most)) (omega (arith, p .to, s .most)) f
+    (between (r .count) i j o .near) (s .lens i j o)
+lens-step (Receive from to) r w s (p, c, f) i j o =
+    let a = index from in
+    let b = index to in
+    let hb : b < 8 = omega (arith, p .to, s .most) in
+    let near = between (r .count) i j o .near in
+    asked-lens (popped (r .channels) (place a b)) b _ _ i j (pop-whole (r .channels) (place a b) (w .channels)) hb
+    (popped-free (r .channels) a b _ (p .apart) hb f) near
+    (popped-lens (r .channels) a b i j (w .channels) (omega (arith, p .from, s .most)) hb near (s .lens i j o))
+lens-step (Start zone) r w s (p, c, f) i j o =
+    asked-lens (r .channels) (index zone) _ _ i j (w .channels) (omega (arith, s .most)) f (between (r .count) i j o .near) (s .lens i j o)
+
+-- An accepted call hands back a sound run.
+granted-sound : (c : SiteCall) (r : Run) → WholeRun r → Typed c → Passed c r → SoundRun (granted c r .run)
+granted-sound c r w t p =
+    let s = parts r (p .sound) in
+    let q : siteOf (granted c r .run) ≡ stepS (callOf c) (siteOf r) =
+    ap (λ (x : Answer). siteOf (x .run)) (sym (p .result)) ∙ refine c r w t (p .said) .0 in
+    let cars : stocksS (r .count) (siteOf (granted c r .run)) + carsS (siteOf (granted c r .run)) ≡ stocksS (r .count) (siteOf r) + carsS (siteOf r) =
+    sym (cars-at (granted c r .run)) ∙ ap (λ (x : Answer). allCars (x .run)) (sym (p .result)) ∙ call-conserves c r w t ∙ cars-at r in
+    record {
+      fewest = s .fewest;
+      most = s .most;
+      records = omega (arith, p .room);
+      events = λ i h. subst (λ (x : Site). x .zone i .events ≤ r .records + 1) (sym q) (omega (arith, events-step (callOf c) (siteOf r) i, s .events i h));
+      deps = λ i h. subst (λ (x : Site). x .zone i .deps < 2 ^ r .count) (sym q) (deps-step (r .count) (callOf c) (siteOf r) i (sited c r p) (s .deps i h));
+      lens = lens-step c r w s (p .asks);
+      sets = λ i j o. subst (λ (x : Site). setsWithin (r .count) (x .channel i j) ≡ true) (sym q) (sets-step (r .count) (callOf c) (siteOf r) (s .most) (sited c r p) (s .deps) (s .sets) i j o);
+      cars = omega (arith, s .cars);
+    }
+
+pub call-sound : (c : SiteCall) (r : Run) → WholeRun r → Typed c → isSound r ≡ true → isSound (answer c r .run) ≡ true
+call-sound c r w t e = go (outcome c r)
+  where
+    go : Passed c r ⊎ Refused c r → isSound (answer c r .run) ≡ true
+    go (inl p) = ap (λ (x : Answer). isSound (x .run)) (p .result) ∙ sound (granted c r .run) (granted-sound c r w t p)
+    go (inr p) = ap isSound (p .kept) ∙ e
+
+pub after-sound : (cs : List SiteCall) (r : Run) → WholeRun r → AllTyped cs → isSound r ≡ true → isSound (after cs r) ≡ true
+after-sound [] r w t e = e
+after-sound (c ∷ cs) r w t e = after-sound cs (answer c r .run) (call-whole c r w) (t .1) (call-sound c r w (t .0) e)
+
+-- The run of an opening is sound, also the run that a refused opening hands back.
+opened-facts : (count : ℕ) (stocks : List ℕ) → 2 ≤ count → count ≤ 8 → length stocks ≡ count → sum stocks ≤ mostCars
+    → SoundRun (openedRun count stocks)
+unfolding openedRun
+opened-facts count stocks few most h c =
+    let r = openedRun count stocks in
+    let q = opened-site count stocks most h in
+    record {
+      fewest = few;
+      most = most;
+      records = omega arith;
+      events = λ i b. subst (λ (x : Site). x .zone i .events ≤ 0) (sym q) (omega arith);
+      deps = λ i b. subst (λ (x : Site). x .zone i .deps < 2 ^ count) (sym q) (pow-lt b);
+      lens = λ i j o. subst (λ (n : ℕ). n ≤ places) (sym (none-at 64 (place i j))) (omega arith);
+      sets = λ i j o. subst (λ (x : Site). setsWithin count (x .channel i j) ≡ true) (sym q) refl;
+      cars = subst (λ (n : ℕ). n ≤ mostCars) (sym (opened-cars count stocks most h) ∙ cars-at r) c;
+    }
+
+opened-sound : (count : ℕ) (stocks : List ℕ) → 2 ≤ count → count ≤ 8 → length stocks ≡ count → sum stocks ≤ mostCars
+    → isSound (openedRun count stocks) ≡ true
+opened-sound count stocks few most h c = sound (openedRun count stocks) (opened-facts count stocks few most h c)
+
+pub open-sound : (count : ℕ) (stocks : List ℕ) → isSound (openCall count stocks .run) ≡ true
+open-sound count stocks = go (open-outcome count stocks)
+  where
+    go : Opened count stocks ⊎ NotOpened count stocks → isSound (openCall count stocks .run) ≡ true
+    go (inl o) =
+        ap (λ (x : Answer). isSound (x .run)) (o .result)
+        ∙ opened-sound count stocks (o .fewest) (o .most) (o .lengths) (o .cars)
+    go (inr o) =
+        ap (λ (x : Answer). isSound (x .run)) (o .result)
+        ∙ opened-sound 2 (0 ∷ 0 ∷ []) (omega arith) (omega arith) refl (omega arith)
+
+-- Every true run is sound.
+pub true-sound : (count : ℕ) (stocks : List ℕ) (cs : List SiteCall) → AllTyped cs → isSound (after cs (openCall count stocks .run)) ≡ true
+true-sound count stocks cs t =
+    after-sound cs (openCall count stocks .run) (open-whole count stocks) t (open-sound count stocks)

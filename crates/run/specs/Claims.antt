@@ -1,0 +1,77 @@
+-- What the claims over calls and lists of calls speak of, beside the calls themselves.
+use mathlib.Core.Path.{_≡_}
+use mathlib.Core.List.{List, [], _∷_}
+use mathlib.Core.Logic.{_⊎_}
+use Prim.Native.Nat.{ℕ, _+_, _≤_, _<_}
+use lib.Dec.{leb, ltb}
+use lib.ListN.{length, take, getD}
+use Rattle.rules.specs.Change.{cons-if}
+use Rattle.rules.specs.Limits.{mostZones, mostRecords, places}
+use Rattle.rules.specs.Questions.{Question, question, refusal, index}
+use Rattle.channel.specs.Channels.{Whole}
+use Rattle.run.specs.Layout.{sendRecord, receiveRecord, startRecord}
+use Rattle.run.specs.State.{stocks, carsOnChannels}
+use Rattle.run.specs.Calls.{isPair}
+use Rattle.run.specs.Lists.{SiteCall, Send, Receive, Start, answer, isAccepted}
+use Rattle.run.specs.declared.Run.{Run}
+
+-- The lists of a run have the lengths of its arrays: true of every value of the type.
+pub record WholeRun (r : Run) : Type 0 where
+  pub zones : length (r .zones) ≡ mostZones
+  pub opening : length (r .opening) ≡ mostZones
+  pub channels : Whole (r .channels)
+  pub journal : length (r .journal) ≡ mostRecords
+
+-- The cars of a call are a u8: true of every argument of the type.
+abbrev pub Typed : SiteCall → Type 0
+Typed (Send from to cars) = cars < 256
+Typed (Receive from to) = Unit {0}
+Typed (Start zone) = Unit {0}
+
+abbrev pub AllTyped : List SiteCall → Type 0
+AllTyped [] = Unit {0}
+AllTyped (c ∷ cs) = Typed c × AllTyped cs
+
+-- "stocks plus cars on lines" of a run.
+abbrev pub allCars : Run → ℕ
+allCars r = stocks (r .count) (r .zones) + carsOnChannels (r .count) (r .channels)
+
+-- What a sound run answers to a hand-over, by the zone count, the number of records, the sender's stock and the channel's length alone:
+-- whether a recording is started is not asked.
+abbrev pub sendQuestions : (count records stock len from to cars : ℕ) → List Question
+sendQuestions count records stock len from to cars =
+    question 5 (isPair count from to)
+    ∷ question 6 (ltb records mostRecords)
+    ∷ question 7 (leb cars stock)
+    ∷ question 8 (ltb len places)
+    ∷ []
+
+abbrev pub sendRefusal : (count records stock len from to cars : ℕ) → ℕ
+sendRefusal count records stock len from to cars = refusal (sendQuestions count records stock len from to cars)
+
+-- The number is one of the list.
+abbrev pub Among : ℕ → List ℕ → Type 0
+Among n [] = ⊥
+Among n (x ∷ xs) = (n ≡ x) ⊎ Among n xs
+
+-- The numbers that a call may answer: 0 and those of its list.
+abbrev pub answers : SiteCall → List ℕ
+answers (Send from to cars) = 0 ∷ 1 ∷ 5 ∷ 6 ∷ 7 ∷ 8 ∷ []
+answers (Receive from to) = 0 ∷ 1 ∷ 5 ∷ 6 ∷ 9 ∷ 10 ∷ []
+answers (Start zone) = 0 ∷ 1 ∷ 5 ∷ 6 ∷ 11 ∷ 10 ∷ []
+
+-- The record word of a call, and those of the accepted calls of a list, in order.
+abbrev pub recordOf : SiteCall → ℕ
+recordOf (Send from to cars) = sendRecord (index from) (index to) cars
+recordOf (Receive from to) = receiveRecord (index from) (index to)
+recordOf (Start zone) = startRecord (index zone)
+
+abbrev pub acceptedRecords : List SiteCall → Run → List ℕ
+acceptedRecords [] r = []
+acceptedRecords (c ∷ cs) r = cons-if (isAccepted c r) (recordOf c) (acceptedRecords cs (answer c r .run))
+
+-- The records of a run are the words ws, and the rest of its journal is 0.
+pub record Holds (r : Run) (ws : List ℕ) : Type 0 where
+  pub number : r .records ≡ length ws
+  pub words : take (r .records) (r .journal) ≡ ws
+  pub rest : (k : ℕ) → r .records ≤ k → getD (r .journal) k 0 ≡ 0

@@ -1,0 +1,101 @@
+-- Worked examples of the zone part: each row's answer, by the definitions that the contracts cite, is what document 01 says. Assumes
+-- nothing.
+use mathlib.Core.Path.{_≡_, refl}
+use mathlib.Core.Bool.{Bool, true, false}
+use mathlib.Core.List.{List, [], _∷_}
+use Prim.Native.Nat.{ℕ}
+use Rattle.rules.specs.declared.Saved.{Saved}
+use Rattle.rules.specs.declared.Checkpoint.{Checkpoint}
+use Rattle.rules.specs.declared.Checkpoint.the-variants.{None, Mutable, Permanent}
+use Rattle.local.specs.Asked.{requestedBy, startedBy}
+use Rattle.rules.specs.Questions.{isCount, isOn}
+use Rattle.zone.specs.Zone.{
+  isOther,
+  isSound,
+  openZone,
+  sendStep,
+  receiveStep,
+  requestStep,
+  startStep,
+}
+use Rattle.zone.specs.declared.Zone.{Zone}
+use Rattle.zone.specs.declared.Step.{Step}
+use Rattle.zone.specs.declared.Opening.{Opening}
+
+-- What the zone part answers: an opening, or a step.
+pub data Reply : Type 0 where
+  opening : Opening → Reply
+  step : Step → Reply
+
+pub record Row : Type 0 where
+  pub answer : Reply
+  pub expected : Reply
+
+abbrev pub answers : List Row → List Reply
+answers [] = []
+answers (r ∷ rs) = r .answer ∷ answers rs
+
+abbrev pub expectations : List Row → List Reply
+expectations [] = []
+expectations (r ∷ rs) = r .expected ∷ expectations rs
+
+-- A zone: its number, the zone count, its stock, dependency set, own events and checkpoint.
+abbrev pub zone : ℕ → ℕ → ℕ → ℕ → ℕ → Checkpoint → Zone
+zone number count stock deps events mark =
+    record { number = number; count = count; stock = stock; deps = deps; events = events; checkpoint = mark }
+
+abbrev pub saved : ℕ → ℕ → Saved
+saved stock events = record { stock = stock; events = events }
+
+-- An opening, with the refusal's number and the zone.
+abbrev pub opens : Opening → ℕ → Zone → Row
+opens o n z = record { answer = opening o; expected = opening (record { refusal = n; zone = z }) }
+
+-- A step, with the refusal's number, the zone, the flag, the zones to be asked and the set carried.
+abbrev pub gives : Step → ℕ → Zone → Bool → ℕ → ℕ → Row
+gives s n z flag to carried = record {
+  answer = step s;
+  expected = step (record { refusal = n; zone = z; flag = flag; to = to; carried = carried });
+}
+
+abbrev pub table : List Row
+table =
+    -- 1, 2, 8 and 9 zones.
+    opens (openZone 1 1 5) 2 (zone 1 2 0 1 0 None)
+    ∷ opens (openZone 2 1 5) 0 (zone 1 2 5 1 0 None)
+    ∷ opens (openZone 8 8 65535) 0 (zone 8 8 65535 128 0 None)
+    ∷ opens (openZone 9 1 5) 2 (zone 1 2 0 1 0 None)
+    -- A zone whose number is not on the site.
+    ∷ opens (openZone 3 0 5) 5 (zone 1 2 0 1 0 None)
+    ∷ opens (openZone 3 4 5) 5 (zone 1 2 0 1 0 None)
+    -- Case B. Zone 1, which heard of zone 2, starts: it asks zone 2, carrying {1, 2}; then it sends 2 cars, flagged.
+    ∷ gives (startStep (zone 1 3 11 3 1 None)) 0 (zone 1 3 11 3 1 (Permanent (saved 11 1))) false 2 3
+    ∷ gives (sendStep (zone 1 3 11 3 1 (Permanent (saved 11 1))) 3 2) 0 (zone 1 3 9 3 2 (Permanent (saved 11 1))) true 0 0
+    -- Zone 3 receives them: a mutable checkpoint of stock 9 and 1 event, before the stock rises.
+    ∷ gives (receiveStep (zone 3 3 9 4 1 None) 1 2 true) 0 (zone 3 3 11 4 2 (Mutable (saved 9 1))) false 0 0
+    -- Zone 2, which heard of zone 3, takes the request of zone 1: it asks zone 3, carrying {1, 2, 3}.
+    ∷ gives (requestStep (zone 2 3 10 6 2 None) 3) 0 (zone 2 3 10 6 2 (Permanent (saved 10 2))) false 4 7
+    -- Zone 3 takes the request of zone 2: permanent with stock 9 and 1 event, and nobody is asked.
+    ∷ gives (requestStep (zone 3 3 11 4 2 (Mutable (saved 9 1))) 7) 0 (zone 3 3 11 4 2 (Permanent (saved 9 1))) false 0 0
+    -- A permanent checkpoint drops a request.
+    ∷ gives (requestStep (zone 2 3 10 6 2 (Permanent (saved 7 1))) 1) 0 (zone 2 3 10 6 2 (Permanent (saved 7 1))) false 0 0
+    -- A start that sends no request, and a second one.
+    ∷ gives (startStep (zone 1 2 5 1 0 None)) 0 (zone 1 2 5 1 0 (Permanent (saved 5 0))) false 0 0
+    ∷ gives (startStep (zone 1 2 5 1 0 (Permanent (saved 5 0)))) 11 (zone 1 2 5 1 0 (Permanent (saved 5 0))) false 0 0
+    -- A stock of 65,535, reached and passed.
+    ∷ gives (receiveStep (zone 1 2 65534 1 3 None) 2 1 false) 0 (zone 1 2 65535 3 4 None) false 0 0
+    ∷ gives (receiveStep (zone 1 2 65535 1 3 None) 2 1 false) 20 (zone 1 2 65535 1 3 None) false 0 0
+    -- Own event 1,000, and the next.
+    ∷ gives (sendStep (zone 1 2 5 1 999 None) 2 1) 0 (zone 1 2 4 1 1000 None) false 0 0
+    ∷ gives (sendStep (zone 1 2 4 1 1000 None) 2 1) 6 (zone 1 2 4 1 1000 None) false 0 0
+    ∷ gives (receiveStep (zone 1 2 4 1 999 None) 2 1 false) 0 (zone 1 2 5 3 1000 None) false 0 0
+    ∷ gives (receiveStep (zone 1 2 5 3 1000 None) 2 1 false) 6 (zone 1 2 5 3 1000 None) false 0 0
+    -- A message of 0 cars is treated as any other: it adds to the dependency set, or makes a mutable checkpoint.
+    ∷ gives (receiveStep (zone 2 3 8 2 1 None) 3 0 false) 0 (zone 2 3 8 6 2 None) false 0 0
+    ∷ gives (receiveStep (zone 2 3 8 2 1 None) 3 0 true) 0 (zone 2 3 8 2 2 (Mutable (saved 8 1))) false 0 0
+    ∷ []
+
+-- The two sides of every row are equal.
+pub edges : answers table ≡ expectations table
+unfolding isCount isOn isOther isSound openZone sendStep receiveStep requestStep startStep requestedBy startedBy
+edges = refl

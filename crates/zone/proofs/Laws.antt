@@ -1,0 +1,47 @@
+-- What the zone part's tests say of numbers, and a call's negated test of its callee's meaning. Assumes nothing.
+use mathlib.Core.Path.{_≡_, refl, sym, _∙_}
+use mathlib.Core.Bool.{Bool, true, false, not, _&&_, and-eq-true-iff}
+use mathlib.Core.Logic.{_⊎_, inl, inr, ⊎-elim}
+use Prim.Native.Nat.{ℕ, _*_, _/_, _^_, _<_, _≤_}
+use native.Mathlib.Nat.{div-eq-of-lt, div-lt-iff-lt-mul}
+use native.Mathlib.Omega.{arith}
+use borrow.Author.Tests.{not-true, not-false, leb-true, ltb-true, ltb-false, eq-eqb, ne-eqb}
+use lib.Dec.{eqb, leb, ltb}
+use lib.Pow.{pow-pos}
+use Rattle.rules.specs.Sets.{within}
+use Rattle.rules.specs.Questions.{isCount, isOn}
+use Rattle.rules.proofs.QuestionLaws.{count-high, on-low, on-high}
+use Rattle.zone.specs.Zone.{isOther, isSound}
+use Rattle.zone.specs.declared.Zone.{Zone}
+
+pub no : {t s : Bool} → t ≡ s → not t ≡ true → s ≡ false
+no {t} e h = sym e ∙ not-true t h
+
+pub yes : {t s : Bool} → t ≡ s → not t ≡ false → s ≡ true
+yes {t} e h = sym e ∙ not-false t h
+
+-- A zone's number on a site is 1 to 8.
+pub on-site : (count k : ℕ) → isCount count ≡ true → isOn count k ≡ true → (1 ≤ k) × (k ≤ 8)
+on-site count k h g =
+    let l = count-high count h in
+    let m = on-high count k g in
+    (on-low count k g, omega arith)
+
+sound-count : (z : Zone) → isSound z ≡ true → (isCount (z .count) ≡ true) × (isOn (z .count) (z .number) ≡ true)
+unfolding isSound
+sound-count z h =
+    let a = isCount (z .count) in
+    let b = isOn (z .count) (z .number) in
+    let d = within (z .deps) (z .count) in
+    let e = leb (z .stock) 65535 in
+    let g = and-eq-true-iff (a && b && d && e) (leb (z .events) 1000) .0 h .0 in
+    and-eq-true-iff a b .0 (and-eq-true-iff (a && b) d .0 (and-eq-true-iff (a && b && d) e .0 g .0) .0)
+
+-- The number of a sound zone, and that of another zone of its site.
+pub own-number : (z : Zone) → isSound z ≡ true → (1 ≤ z .number) × (z .number ≤ 8)
+own-number z h = on-site _ _ (sound-count z h .0) (sound-count z h .1)
+
+pub other-number : (z : Zone) (k : ℕ) → isSound z ≡ true → isOther z k ≡ true → (1 ≤ k) × (k ≤ 8)
+unfolding isOther
+other-number z k h g =
+    on-site _ _ (sound-count z h .0) (and-eq-true-iff (isOn (z .count) k) (not (eqb k (z .number))) .0 g .0)

@@ -1,0 +1,100 @@
+-- The zone part: one zone's state and its steps. Document 01, from "The zone part has the same steps without lines".
+use mathlib.Core.Bool.{Bool, true, false, not, _&&_, cond}
+use mathlib.Core.List.{List, [], _∷_}
+use Prim.Native.Nat.{ℕ, _+_, _-_}
+use lib.Dec.{leb, ltb, eqb}
+use lib.Count.{trailingZeros}
+use Rattle.rules.specs.Limits.{mostZones, mostCars, mostRecords}
+use Rattle.rules.specs.Questions.{question, ask, index, isCount, isOn}
+use Rattle.rules.specs.Sets.{nobody, within}
+use Rattle.rules.specs.Zone.{isMarked, opened, sent, received}
+use Rattle.rules.specs.declared.Local.{Local}
+use Rattle.local.specs.Asked.{requestedBy, startedBy}
+use Rattle.local.specs.declared.Asked.{Asked}
+use Rattle.zone.specs.declared.Zone.{Zone}
+use Rattle.zone.specs.declared.Step.{Step}
+use Rattle.zone.specs.declared.Opening.{Opening}
+
+-- The zone's local state, of which the rules speak, and the zone with another one.
+abbrev pub localOf : Zone → Local
+localOf z = record { stock = z .stock; deps = z .deps; events = z .events; checkpoint = z .checkpoint }
+
+abbrev pub withLocal : Zone → Local → Zone
+withLocal z l = record {
+  number = z .number;
+  count = z .count;
+  stock = l .stock;
+  deps = l .deps;
+  events = l .events;
+  checkpoint = l .checkpoint;
+}
+
+-- Question 5, of sending and taking: "the zone itself counts as one of the two named zones".
+unfoldable pub isOther : Zone → ℕ → Bool
+isOther z zone = isOn (z .count) zone && not (eqb zone (z .number))
+
+-- Question 1: "Its state is sound when zone number and count are valid, its heard set names only zones of the site, the stock is at
+-- most 65,535 and own events at most 1,000."
+unfoldable pub isSound : Zone → Bool
+isSound z =
+    isCount (z .count) && isOn (z .count) (z .number) && within (z .deps) (z .count) && leb (z .stock) mostCars
+    && leb (z .events) mostRecords
+
+-- Question 6, "There, 6 counts own events".
+abbrev pub hasRoom : Zone → Bool
+hasRoom z = ltb (z .events) mostRecords
+
+-- "Opening one zone: 2, then 5 for its own number; refused, it hands back zone 1 of 2 with stock 0."
+abbrev pub openedZone : ℕ → ℕ → ℕ → Zone
+openedZone count number stock =
+    let l = opened (index number) stock in
+    record { number = number; count = count; stock = l .stock; deps = l .deps; events = l .events; checkpoint = l .checkpoint }
+
+unfoldable pub openZone : ℕ → ℕ → ℕ → Opening
+openZone count number stock =
+    ask (question 2 (isCount count) ∷ question 5 (isOn count number) ∷ [])
+    (λ n. record { refusal = n; zone = openedZone 2 1 0 })
+    (record { refusal = 0; zone = openedZone count number stock })
+
+-- A refused step hands the zone back unchanged; the flag and both sets are 0.
+abbrev pub refused : Zone → ℕ → Step
+refused z n = record { refusal = n; zone = z; flag = false; to = nobody; carried = nobody }
+
+abbrev pub accepted : Zone → Bool → ℕ → ℕ → Step
+accepted z flag to carried = record { refusal = 0; zone = z; flag = flag; to = to; carried = carried }
+
+-- An accepted step that may send requests.
+abbrev pub asking : Zone → Asked → Step
+asking z a = accepted (withLocal z (a .local)) false (a .to) (a .carried)
+
+-- "Send: 1, 5, 6, 7." It names the receiver and answers the flag ("marked bit").
+unfoldable pub sendStep : Zone → ℕ → ℕ → Step
+sendStep z to cars =
+    ask (question 1 (isSound z) ∷ question 5 (isOther z to) ∷ question 6 (hasRoom z) ∷ question 7 (leb cars (z .stock)) ∷ [])
+    (refused z)
+    (accepted (withLocal z (sent cars (localOf z))) (isMarked (z .checkpoint)) nobody nobody)
+
+-- "Take a hand-over: 1, 5, 6, 20." It names the sender.
+unfoldable pub receiveStep : Zone → ℕ → ℕ → Bool → Step
+receiveStep z from cars flag =
+    ask (question 1 (isSound z) ∷ question 5 (isOther z from) ∷ question 6 (hasRoom z) ∷ question 20 (leb (z .stock + cars) mostCars) ∷ [])
+    (refused z)
+    (accepted (withLocal z (received (index from) cars flag (localOf z))) false nobody nobody)
+
+-- "Take a request: 1, 5, its set's zones being on the site."
+unfoldable pub requestStep : Zone → ℕ → Step
+requestStep z set =
+    ask (question 1 (isSound z) ∷ question 5 (within set (z .count)) ∷ [])
+    (refused z)
+    (asking z (requestedBy (index (z .number)) set (localOf z)))
+
+-- "Start: 1, 11." There "11 means unmarked".
+unfoldable pub startStep : Zone → Step
+startStep z =
+    ask (question 1 (isSound z) ∷ question 11 (not (isMarked (z .checkpoint))) ∷ [])
+    (refused z)
+    (asking z (startedBy (index (z .number)) (localOf z)))
+
+-- The number of the zone to be sent to next: the lowest of the set; 0 where the set is empty.
+unfoldable pub nextOf : ℕ → ℕ
+nextOf set = cond (eqb set 0) 0 (trailingZeros mostZones set + 1)

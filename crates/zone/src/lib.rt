@@ -1,0 +1,260 @@
+// The zone part: one zone's state and its steps, for a controller that has lines of its own. Each step takes the zone and hands back
+// the next one, and answers the number of the first question that was answered no, or 0.
+ghost use mathlib.Core.Path.{_≡_};
+ghost use Prim.Native.Nat.{_≤_};
+ghost use Rattle.rules.specs.Sets.{size};
+ghost use Rattle.zone.specs.Zone.{
+  isOther,
+  isSound,
+  localOf,
+  withLocal,
+  openZone,
+  sendStep,
+  receiveStep,
+  requestStep,
+  startStep,
+};
+use rules::Checkpoint;
+use rules::Local;
+
+// One zone: its number and the zone count of its site, its stock, its dependency set ("heard set": the zone numbered k is the bit of
+// weight 2 to the power k - 1), its own events and its checkpoint ("mark").
+pub struct Zone {
+    pub number: u8,
+    pub count: u8,
+    pub stock: u16,
+    pub deps: u8,
+    pub events: u16,
+    pub checkpoint: Checkpoint,
+}
+
+// What opening answers: the refusal's number or 0, and the zone.
+pub struct Opening {
+    pub refusal: u8,
+    pub zone: Zone,
+}
+
+// What a step answers: the refusal's number or 0, the next zone, the flag ("marked bit") that goes with a message sent, the set of
+// zones to be sent a request and the set that each request carries.
+pub struct Step {
+    pub refusal: u8,
+    pub zone: Zone,
+    pub flag: bool,
+    pub to: u8,
+    pub carried: u8,
+}
+
+fn refused(zone: Zone, n: u8) -> Step
+    ensures { λ r. ⌜ r ≡ Rattle.zone.specs.Zone.refused zone n ⌝ }
+{
+    Step {
+        refusal: n,
+        zone,
+        flag: false,
+        to: 0,
+        carried: 0,
+    }
+}
+
+impl Zone {
+    // A zone at first, with its stock.
+    pub fn open(count: u8, number: u8, stock: u16) -> Opening
+        ensures { λ r. ⌜ r ≡ openZone count number stock ⌝ }
+    {
+        if !questions::is_count(count) {
+            return Opening {
+                refusal: 2,
+                zone: opened(2, 1, 0),
+            };
+        }
+        if !questions::is_on(count, number) {
+            return Opening {
+                refusal: 5,
+                zone: opened(2, 1, 0),
+            };
+        }
+        Opening {
+            refusal: 0,
+            zone: opened(count, number, stock),
+        }
+    }
+
+    fn local(self) -> Local
+        ensures { λ r. ⌜ r ≡ localOf self ⌝ }
+    {
+        let checkpoint = self.checkpoint;
+        Local {
+            stock: self.stock,
+            deps: self.deps,
+            events: self.events,
+            checkpoint,
+        }
+    }
+
+    fn with_local(self, local: Local) -> Zone
+        ensures { λ r. ⌜ r ≡ withLocal self local ⌝ }
+    {
+        let checkpoint = local.checkpoint;
+        Zone {
+            number: self.number,
+            count: self.count,
+            stock: local.stock,
+            deps: local.deps,
+            events: local.events,
+            checkpoint,
+        }
+    }
+
+    fn is_sound(self) -> bool
+        ensures { λ r. ⌜ r ≡ isSound self ⌝ }
+    {
+        let a = questions::is_count(self.count);
+        let b = questions::is_on(self.count, self.number);
+        let c = questions::is_within(self.deps, self.count);
+        let d = self.stock <= 65535;
+        let e = self.events <= 1000;
+        a & b & c & d & e
+    }
+
+    fn is_other(self, zone: u8) -> bool
+        ensures { λ r. ⌜ r ≡ isOther self zone ⌝ }
+    {
+        let a = questions::is_on(self.count, zone);
+        let b = zone != self.number;
+        a & b
+    }
+
+    // A message ("hand-over") of some cars is sent to another zone.
+    pub fn send(mut self, to: u8, cars: u8) -> Step
+        ensures { λ r. ⌜ r ≡ sendStep self to cars ⌝ }
+    {
+        if !self.is_sound() {
+            return refused(self, 1);
+        }
+        if !self.is_other(to) {
+            return refused(self, 5);
+        }
+        if 1000 <= self.events {
+            return refused(self, 6);
+        }
+        if self.stock < cars as u16 {
+            return refused(self, 7);
+        }
+        let mark = self.checkpoint;
+        let flag = local::is_marked(mark);
+        let next = local::send(self.local(), cars);
+        self = self.with_local(next);
+        Step {
+            refusal: 0,
+            zone: self,
+            flag,
+            to: 0,
+            carried: 0,
+        }
+    }
+
+    // A message ("hand-over") with its flag is received from another zone.
+    pub fn receive(mut self, from: u8, cars: u8, flag: bool) -> Step
+        ensures { λ r. ⌜ r ≡ receiveStep self from cars flag ⌝ }
+    {
+        if !self.is_sound() {
+            return refused(self, 1);
+        }
+        if !self.is_other(from) {
+            return refused(self, 5);
+        }
+        if 1000 <= self.events {
+            return refused(self, 6);
+        }
+        if 65535 - (cars as u16) < self.stock {
+            return refused(self, 20);
+        }
+        let next = local::receive(self.local(), from - 1, cars, flag);
+        self = self.with_local(next);
+        Step {
+            refusal: 0,
+            zone: self,
+            flag: false,
+            to: 0,
+            carried: 0,
+        }
+    }
+
+    // A request with its set is received.
+    pub fn request(mut self, set: u8) -> Step
+        ensures { λ r. ⌜ r ≡ requestStep self set ⌝ }
+    {
+        if !self.is_sound() {
+            return refused(self, 1);
+        }
+        if !questions::is_within(set, self.count) {
+            return refused(self, 5);
+        }
+        let asked = local::request(self.local(), self.number - 1, set);
+        let next = asked.local;
+        self = self.with_local(next);
+        Step {
+            refusal: 0,
+            zone: self,
+            flag: false,
+            to: asked.to,
+            carried: asked.carried,
+        }
+    }
+
+    // A recording is started by this zone.
+    pub fn start(mut self) -> Step
+        ensures { λ r. ⌜ r ≡ startStep self ⌝ }
+    {
+        if !self.is_sound() {
+            return refused(self, 1);
+        }
+        let mark = self.checkpoint;
+        if local::is_marked(mark) {
+            return refused(self, 11);
+        }
+        let asked = local::start(self.local(), self.number - 1);
+        let next = asked.local;
+        self = self.with_local(next);
+        Step {
+            refusal: 0,
+            zone: self,
+            flag: false,
+            to: asked.to,
+            carried: asked.carried,
+        }
+    }
+}
+
+fn opened(count: u8, number: u8, stock: u16) -> Zone
+    requires { ⌜ (1 ≤ number) × (number ≤ 8) ⌝ }
+    ensures { λ r. ⌜ r ≡ Rattle.zone.specs.Zone.openedZone count number stock ⌝ }
+{
+    let local = local::open(number - 1, stock);
+    let checkpoint = local.checkpoint;
+    Zone {
+        number,
+        count,
+        stock: local.stock,
+        deps: local.deps,
+        events: local.events,
+        checkpoint,
+    }
+}
+
+// The number of requests to be sent to the zones of a set: its ones.
+pub fn requests(to: u8) -> u32
+    ensures { λ r. ⌜ r ≡ size to ⌝ }
+{
+    u8::count_ones(to)
+}
+
+// The number of the zone to be sent to next of a set: its lowest. 0 where the set is empty.
+pub fn next_of(set: u8) -> u8
+    ensures { λ r. ⌜ r ≡ Rattle.zone.specs.Zone.nextOf set ⌝ }
+{
+    if set == 0 {
+        return 0;
+    }
+    u8::trailing_zeros(set) as u8 + 1
+}
