@@ -11,7 +11,8 @@ use lib.Dec.{eqb, leb}
 use borrow.Author.Tests.{leb-true, ne-eqb}
 use Rattle.rules.specs.Change.{join, cons-if}
 use Rattle.rules.specs.Site.{Item, message, request, Site, Call, send, receive, start, stepS, openS}
-use Rattle.rules.specs.Park.{Park, Move, hand, take, emptyPark, handed, taken, handIf, takeIf, step, replay, isInside, counted, insideFrom, inside, sum, sumBelow, total, Within}
+use Rattle.rules.specs.Below.{sum, sumBelow}
+use Rattle.rules.specs.Park.{Park, Move, hand, take, emptyPark, handed, taken, handIf, takeIf, step, replay, isInside, counted, insideFrom, inside, total, Within}
 use Rattle.rules.specs.Cut.{Allowed, run, taking, moveOf, moves, Complete, present, snapshot}
 use Rattle.rules.proofs.Tests.{Same, same?, eqb-refl, other-receiver}
 use Rattle.rules.proofs.Guarded.{on-true, on-false}

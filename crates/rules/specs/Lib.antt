@@ -1,6 +1,7 @@
 pub mod Limits
 pub mod Questions
 pub mod Sets
+pub mod Below
 pub mod Change
 pub mod Zone
 pub mod Site

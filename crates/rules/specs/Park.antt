@@ -5,6 +5,7 @@ use mathlib.Core.List.{List, [], _∷_, tail}
 use mathlib.Core.Option.{Option, none, some}
 use Prim.Native.Nat.{ℕ, zero, suc, _+_, _-_, _<_}
 use lib.Dec.{eqb, leb, ltb}
+use Rattle.rules.specs.Below.{sum, sumBelow}
 use Rattle.rules.specs.Change.{on, join, cons-if}
 
 pub record Park : Type 0 where
@@ -102,14 +103,6 @@ takes i j (hand a b c ∷ ms) = takes i j ms
 takes i j (take a b ∷ ms) = on (eqb i a && eqb j b) suc (takes i j ms)
 
 -- All the cars of a park of n zones: the stocks, and the cars on the channels.
-abbrev pub sum : List ℕ → ℕ
-sum [] = 0
-sum (c ∷ l) = c + sum l
-
-abbrev pub sumBelow : ℕ → (ℕ → ℕ) → ℕ
-sumBelow zero f = 0
-sumBelow (suc n) f = sumBelow n f + f n
-
 abbrev pub total : ℕ → Park → ℕ
 total n p = sumBelow n (p .stock) + sumBelow n (λ i. sumBelow n (λ j. sum (p .channel i j)))
 

@@ -98,7 +98,7 @@ send-accepted r from to cars w e p h c f =
     let s = parts r e in
     let q = pair (r .count) from to p in
     let l = len-is r w s (index from) (index to) q in
-    let v : cars ≤ zoneAt (r .zones) (index from) .stock = subst (λ (z : Local). cars ≤ z .stock) (zone-on r (index from) (q .from)) c in
+    let v = subst (λ (z : Local). cars ≤ z .stock) (zone-on r (index from) (q .from)) c in
     accepted-if (Send from to cars) r
     (e, (p, (lt-ltb _ _ h, (le-leb _ _ v, (lt-ltb (lenOf (r .channels) (place (index from) (index to))) places (omega arith), tt)))))
 

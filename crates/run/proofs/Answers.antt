@@ -5,7 +5,7 @@ use mathlib.Core.Bool.{Bool, true, false, cond}
 use mathlib.Core.Logic.{_≢_, inl, inr}
 use mathlib.Core.List.{List, [], _∷_}
 use Prim.Native.Nat.{ℕ}
-use Rattle.rules.specs.Questions.{Question, ask, refusal, index}
+use Rattle.rules.specs.Questions.{Question, question, ask, refusal, index}
 use Rattle.channel.specs.Channels.{place, lenOf}
 use Rattle.run.specs.State.{zoneAt, isSound}
 use Rattle.run.specs.Calls.{refused, openCall, sendCall}
@@ -42,7 +42,13 @@ pub send-answer : (r : Run) (from to cars : ℕ) → isSound r ≡ true
     → sendCall r from to cars .refusal
     ≡ sendRefusal (r .count) (r .records) (zoneAt (r .zones) (index from) .stock) (lenOf (r .channels) (place (index from) (index to)))
     from to cars
-send-answer r from to cars e = refusal-is (Send from to cars) r ∙ rw e
+unfolding sendCall
+send-answer r from to cars e =
+    let stock = zoneAt (r .zones) (index from) .stock in
+    let len = lenOf (r .channels) (place (index from) (index to)) in
+    ask-refusal (question 1 (isSound r) ∷ sendQuestions (r .count) (r .records) stock len from to cars) r (granted (Send from to cars) r)
+    refl
+    ∙ rw e
 
 pub send-among : (count records stock len from to cars : ℕ)
     → Among (sendRefusal count records stock len from to cars) (0 ∷ 5 ∷ 6 ∷ 7 ∷ 8 ∷ [])

@@ -9,7 +9,7 @@ use native.Mathlib.Nat.{not-suc-le-zero}
 use lib.ListN.{length, getD, length-append, List·getD-append}
 use lib.Seq.{getD-at}
 use Rattle.rules.proofs.Tests.{and-left, and-right, or-off-left, or-off-right, Same, same?}
-use Rattle.run.specs.Below.{allBelow, anyBelow, sumBelow, listBelow, sum}
+use Rattle.rules.specs.Below.{allBelow, anyBelow, sumBelow, listBelow, sum}
 
 -- A number below suc n is below n, or n.
 pub split : (i n : ℕ) → i < suc n → (i < n) ⊎ (i ≡ n)

@@ -18,7 +18,7 @@ use Rattle.rules.proofs.Guarded.{on-same, on-same-at}
 use Rattle.rules.proofs.Tests.{both-true, eqb-refl}
 use Rattle.channel.specs.Channels.{place}
 use Rattle.channel.specs.Words.{carsIn}
-use Rattle.run.specs.Below.{sum}
+use Rattle.rules.specs.Below.{sum}
 use Rattle.run.specs.State.{carsOf, openedRun}
 use Rattle.run.specs.Calls.{openCall}
 use Rattle.run.specs.Model.{siteOf}
@@ -66,7 +66,8 @@ stocks-same n s t e = sum-same n (λ k. s .zone k .stock) (λ k. t .zone k .stoc
 
 cars-same : (s t : Site) → ((i j : ℕ) → carsOf (t .channel i j) ≡ carsOf (s .channel i j)) → carsS t ≡ carsS s
 unfolding carsS
-cars-same s t e = sum-same 64 (λ k. carsOf (s .channel (k / 8) (k % 8))) (λ k. carsOf (t .channel (k / 8) (k % 8))) (λ k h. e (k / 8) (k % 8))
+cars-same s t e =
+    sum-same 64 (λ k. carsOf (s .channel (k / 8) (k % 8))) (λ k. carsOf (t .channel (k / 8) (k % 8))) (λ k h. e (k / 8) (k % 8))
 
 -- The cars of a site: its stocks and what is on its channels.
 abbrev total : ℕ → Site → ℕ
@@ -82,7 +83,8 @@ ask-keeps n b to set g s e = ap₂ _+_ (stocks-same n s (askS b g to set s) zone
 
     channel : (i j : ℕ) → carsOf (on (eqb i b && has to j) (join (request set)) (s .channel i j)) ≡ carsOf (s .channel i j)
     channel i j =
-        on-same carsOf (eqb i b && has to j) (join (request set)) (s .channel i j) (cars-join (request set) (s .channel i j) ∙ omega arith)
+        on-same carsOf (eqb i b && has to j) (join (request set)) (s .channel i j)
+        (cars-join (request set) (s .channel i j) ∙ omega arith)
 
 pop-keeps : (n a b set : ℕ) (rest : List Item) (s : Site) → s .channel a b ≡ request set ∷ rest → total n (popS a b s) ≡ total n s
 pop-keeps n a b set rest s e = ap (λ (x : ℕ). stocksS n s + x) (cars-same s (popS a b s) channel)

@@ -20,7 +20,7 @@ use Rattle.rules.proofs.Tests.{and-left, and-right}
 use Rattle.channel.specs.Words.{itemOf, carsIn, setIn}
 use Rattle.channel.specs.Channels.{place, lenOf, wordsOn, itemsOn, firstOf}
 use Rattle.channel.specs.declared.Channels.{Channels}
-use Rattle.run.specs.Below.{allBelow, sumBelow}
+use Rattle.rules.specs.Below.{allBelow, sumBelow}
 use Rattle.run.proofs.BelowLaws.{all-at}
 use Rattle.run.specs.State.{zoneAt, isChannel, zoneSound, zonesSound, setsWithin, channelSound, channelsSound, carsOf, stocks, carsOnChannels, partsSound}
 

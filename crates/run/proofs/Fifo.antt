@@ -1,5 +1,5 @@
--- First in, first out: on each channel the messages received, followed by those still on it, are the messages sent, in order, each with
--- the cars and the flag that it was sent with. Assumes nothing.
+-- First in, first out: on each channel the messages received, followed by those still on it, are the messages sent, in order, each
+-- with the cars and the flag that it was sent with. Assumes nothing.
 use mathlib.Core.Path.{_≡_, refl, sym, _∙_, ap}
 use mathlib.Core.Bool.{Bool, true, false, cond, _&&_, not}
 use mathlib.Core.List.{List, [], _∷_, _++_, append-nil, append-assoc, tail}

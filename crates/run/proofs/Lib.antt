@@ -12,3 +12,4 @@ pub mod Fifo
 pub mod Journal
 pub mod Accepts
 pub mod Facts
+pub mod Examples

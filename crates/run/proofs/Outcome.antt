@@ -20,7 +20,7 @@ use Rattle.local.specs.declared.Asked.{Asked}
 use Rattle.channel.specs.Words.{itemOf, messageWord}
 use Rattle.channel.specs.Channels.{place, lenOf, isFree, pushed, popped, firstOf, allFree, requestedAll}
 use Rattle.channel.specs.declared.Channels.{Channels}
-use Rattle.run.specs.Below.{sum}
+use Rattle.rules.specs.Below.{sum}
 use Rattle.run.specs.State.{zoneAt, isSound, hasStarted, openedRun}
 use Rattle.run.specs.Calls.{refused, accepted, isPair, hasRoom, taken, openCall, sendCall, receiveCall, startCall}
 use Rattle.run.specs.Lists.{SiteCall, Send, Receive, Start, answer, callOf, isAccepted}
@@ -113,6 +113,7 @@ Asks (Start zone) r =
     (index zone < r .count) × (hasStarted (r .count) (r .zones) ≡ false)
     × (allFree (r .channels) (index zone) (startBy (index zone) r .to) ≡ true)
 
+-- A call answered 0, and every question yes; or it was refused with one of its numbers and handed back the run.
 pub record Passed (c : SiteCall) (r : Run) : Type 0 where
   pub said : isAccepted c r ≡ true
   pub sound : isSound r ≡ true
@@ -120,7 +121,6 @@ pub record Passed (c : SiteCall) (r : Run) : Type 0 where
   pub asks : Asks c r
   pub result : answer c r ≡ granted c r
 
--- A call is refused with one of its numbers and hands back the run, or it has passed.
 pub record Refused (c : SiteCall) (r : Run) : Type 0 where
   pub said : isAccepted c r ≡ false
   pub number : ℕ

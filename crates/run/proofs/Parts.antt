@@ -14,7 +14,7 @@ use Rattle.rules.specs.Site.{Site}
 use Rattle.rules.specs.declared.Local.{Local}
 use Rattle.rules.proofs.Tests.{and-left, and-right}
 use Rattle.channel.specs.Channels.{place, lenOf, itemsOn}
-use Rattle.run.specs.Below.{sumBelow}
+use Rattle.rules.specs.Below.{sumBelow}
 use Rattle.run.specs.State.{zoneAt, isChannel, zoneSound, zonesSound, setsWithin, channelSound, channelsSound, carsOf, stocks, carsOnChannels, partsSound, isSound}
 use Rattle.run.specs.Model.{siteOf}
 use Rattle.run.specs.declared.Run.{Run}

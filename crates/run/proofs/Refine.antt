@@ -111,7 +111,9 @@ free-kept (suc n) l m b to h e = rw (free-kept n l m b to (omega arith) e, e n (
 pub popped-free : (l : Channels) (a b to : ℕ) → a ≢ b → b < 8 → allFree l b to ≡ true → allFree (popped l (place a b)) b to ≡ true
 unfolding allFree
 popped-free l a b to d h f =
-    free-kept 8 l (popped l (place a b)) b to (omega arith) (λ j hj. len-pop-other l (place a b) (place b j) (λ e. d (omega arith))) ∙ f
+    free-kept 8 l (popped l (place a b)) b to (omega arith)
+    (λ j hj. len-pop-other l (place a b) (place b j) (λ e. d (omega arith)))
+    ∙ f
 
 module _ (r : Run) (w : WholeRun r) (s : SoundRun r) where
   -- A hand-over from a to b.
@@ -200,13 +202,16 @@ module _ (r : Run) (w : WholeRun r) (s : SoundRun r) where
 
     -- The site after b has taken an item, with what that makes of it.
     abbrev takenAs : Asked → Site
-    takenAs got = siteOf (accepted r b (got .local) (requestedAll (popped (r .channels) (place a b)) b (got .to) (got .carried)) word .run)
+    takenAs got =
+        let l = requestedAll (popped (r .channels) (place a b)) b (got .to) (got .carried) in
+        siteOf (accepted r b (got .local) l word .run)
 
     request-site : (set : ℕ) (q : Bool) → isPermanent (zoneAt (r .zones) b .checkpoint) ≡ q
         → allFree (r .channels) b (requestedBy b set (zoneAt (r .zones) b) .to) ≡ true
         → takenAs (requestedBy b set (zoneAt (r .zones) b)) ≡ on (not q) (turnS b set) (popS a b (siteOf r))
     unfolding requestedBy
-    request-site set true e f = rw e (quiet-site (λ z. z) (rw e at f) ∙ site≡ _ _ (λ k. on-same (eqb k b) (siteOf r .zone k)) (λ i j. refl))
+    request-site set true e f =
+        rw e (quiet-site (λ z. z) (rw e at f) ∙ site≡ _ _ (λ k. on-same (eqb k b) (siteOf r .zone k)) (λ i j. refl))
     request-site set false e f =
         let z = zoneAt (r .zones) b in
         let d : z .deps < 2 ^ r .count = subst (λ (z : Local). z .deps < 2 ^ r .count) (zone-on r b (p .to)) (s .deps b (p .to)) in
@@ -218,7 +223,8 @@ module _ (r : Run) (w : WholeRun r) (s : SoundRun r) where
         → takenAs (taken a b x (zoneAt (r .zones) b)) ≡ takeS a b (x ∷ rest) (siteOf r)
     taken-site (message cars flag) rest f = quiet-site (received a cars flag) f
     taken-site (request set) rest f =
-        request-site set (isPermanent (siteOf r .zone b .checkpoint)) (ap (λ (z : Local). isPermanent (z .checkpoint)) (sym (zone-on r b (p .to)))) f
+        request-site set (isPermanent (siteOf r .zone b .checkpoint))
+        (ap (λ (z : Local). isPermanent (z .checkpoint)) (sym (zone-on r b (p .to)))) f
 
   -- Before an accepted start nobody has a permanent checkpoint.
   none-permanent : hasStarted (r .count) (r .zones) ≡ false → (k : ℕ) → isPermanent (siteOf r .zone k .checkpoint) ≡ false
@@ -238,14 +244,18 @@ module _ (r : Run) (w : WholeRun r) (s : SoundRun r) where
 
   granted-site : (c : SiteCall) → Typed c → Asks c r
       → (siteOf (granted c r .run) ≡ stepS (callOf c) (siteOf r)) × May (callOf c) (siteOf r)
-  granted-site (Send from to cars) t (p, e, f) =
-      (sent-site (index from) (index to) cars (recordOf (Send from to cars)) p t f, subst (λ (z : Local). cars ≤ z .stock) (sym (zone-on r (index from) (p .from))) e)
+  granted-site (Send from to cars) t (p, e, f) = (
+    sent-site (index from) (index to) cars (recordOf (Send from to cars)) p t f,
+    subst (λ (z : Local). cars ≤ z .stock) (sym (zone-on r (index from) (p .from))) e,
+  )
   granted-site (Receive from to) t (p, e, f) =
       let a = index from in
       let b = index to in
+      let x = itemOf (firstOf (r .channels) (place a b)) in
+      let rest = tail (itemsOn (r .channels) (place a b)) in
       let q = first-item a b p e in (
-        taken-site a b p e (recordOf (Receive from to)) (itemOf (firstOf (r .channels) (place a b))) (tail (itemsOn (r .channels) (place a b))) f ∙ ap (λ (xs : List Item). takeS a b xs (siteOf r)) (sym q),
-        λ n. filled _ _ (sym n ∙ q),
+        taken-site a b p e (recordOf (Receive from to)) x rest f ∙ ap (λ (xs : List Item). takeS a b xs (siteOf r)) (sym q),
+        λ n. filled x rest (sym n ∙ q),
       )
   granted-site (Start zone) t (p, e, f) = (started-site (index zone) (recordOf (Start zone)) p f, none-permanent e)
 

@@ -26,7 +26,7 @@ use Rattle.channel.specs.Words.{setIn}
 use Rattle.channel.specs.Channels.{Whole, place, lenOf, isFree, pushed, popped, freeBelow, allFree, requestedAll}
 use Rattle.channel.specs.declared.Channels.{Channels}
 use Rattle.channel.proofs.View.{pop-whole, lens-pushed, lens-popped, requested-lens}
-use Rattle.run.specs.Below.{sum}
+use Rattle.rules.specs.Below.{sum}
 use Rattle.run.specs.State.{setsWithin, isSound, openedRun}
 use Rattle.run.specs.Calls.{openCall}
 use Rattle.run.specs.Model.{siteOf}
@@ -161,7 +161,8 @@ asked-lens l b to set i j w hb f hj h = rw (requested-lens l b to set w hb f i j
 
 pushed-lens : (l : Channels) (a b word i j : ℕ) → Whole l → a < 8 → b < 8 → lenOf l (place a b) < places → j < 8
     → lenOf l (place i j) ≤ places → lenOf (pushed l (place a b) word) (place i j) ≤ places
-pushed-lens l a b word i j w ha hb f hj h = rw (lens-pushed l a b w ha hb word (lt-ltb _ places f) i j hj) (go (eqb i a && eqb j b) refl)
+pushed-lens l a b word i j w ha hb f hj h =
+    rw (lens-pushed l a b w ha hb word (lt-ltb _ places f) i j hj) (go (eqb i a && eqb j b) refl)
   where
     go : (t : Bool) → eqb i a && eqb j b ≡ t → on t (λ n. n + 1) (lenOf l (place i j)) ≤ places
     go true e = let (x, y) = both-true i a j b e in rw (x, y) (omega arith)
@@ -170,12 +171,14 @@ pushed-lens l a b word i j w ha hb f hj h = rw (lens-pushed l a b w ha hb word (
 popped-lens : (l : Channels) (a b i j : ℕ) → Whole l → a < 8 → b < 8 → j < 8 → lenOf l (place i j) ≤ places
     → lenOf (popped l (place a b)) (place i j) ≤ places
 popped-lens l a b i j w ha hb hj h =
-    rw (lens-popped l a b w ha hb i j hj) (on-keeps (λ (n : ℕ). n ≤ places) (eqb i a && eqb j b) (λ n. n - 1) (lenOf l (place i j)) (λ h. omega arith) h)
+    rw (lens-popped l a b w ha hb i j hj)
+    (on-keeps (λ (n : ℕ). n ≤ places) (eqb i a && eqb j b) (λ n. n - 1) (lenOf l (place i j)) (λ h. omega arith) h)
 
 lens-step : (c : SiteCall) (r : Run) → WholeRun r → SoundRun r → Asks c r → (i j : ℕ) → onSite (r .count) i j ≡ true
     → lenOf (channelsAfter c r) (place i j) ≤ places
 lens-step (Send from to cars) r w s (p, c, f) i j o =
-    pushed-lens (r .channels) (index from) (index to) _ i j (w .channels) (omega (arith, p .from, s .most)) (omega (arith, p .to, s .most)) f
+    pushed-lens (r .channels) (index from) (index to) _ i j (w .channels) (omega (arith, p .from, s .most))
+    (omega (arith, p .to, s .most)) f
     (between (r .count) i j o .near) (s .lens i j o)
 lens-step (Receive from to) r w s (p, c, f) i j o =
     let a = index from in
@@ -186,7 +189,8 @@ lens-step (Receive from to) r w s (p, c, f) i j o =
     (popped-free (r .channels) a b _ (p .apart) hb f) near
     (popped-lens (r .channels) a b i j (w .channels) (omega (arith, p .from, s .most)) hb near (s .lens i j o))
 lens-step (Start zone) r w s (p, c, f) i j o =
-    asked-lens (r .channels) (index zone) _ _ i j (w .channels) (omega (arith, s .most)) f (between (r .count) i j o .near) (s .lens i j o)
+    asked-lens (r .channels) (index zone) _ _ i j (w .channels) (omega (arith, s .most)) f (between (r .count) i j o .near)
+    (s .lens i j o)
 
 -- An accepted call hands back a sound run.
 granted-sound : (c : SiteCall) (r : Run) → WholeRun r → Typed c → Passed c r → SoundRun (granted c r .run)
@@ -194,16 +198,19 @@ granted-sound c r w t p =
     let s = parts r (p .sound) in
     let q : siteOf (granted c r .run) ≡ stepS (callOf c) (siteOf r) =
     ap (λ (x : Answer). siteOf (x .run)) (sym (p .result)) ∙ refine c r w t (p .said) .0 in
-    let cars : stocksS (r .count) (siteOf (granted c r .run)) + carsS (siteOf (granted c r .run)) ≡ stocksS (r .count) (siteOf r) + carsS (siteOf r) =
+    let cars =
     sym (cars-at (granted c r .run)) ∙ ap (λ (x : Answer). allCars (x .run)) (sym (p .result)) ∙ call-conserves c r w t ∙ cars-at r in
     record {
       fewest = s .fewest;
       most = s .most;
       records = omega (arith, p .room);
-      events = λ i h. subst (λ (x : Site). x .zone i .events ≤ r .records + 1) (sym q) (omega (arith, events-step (callOf c) (siteOf r) i, s .events i h));
-      deps = λ i h. subst (λ (x : Site). x .zone i .deps < 2 ^ r .count) (sym q) (deps-step (r .count) (callOf c) (siteOf r) i (sited c r p) (s .deps i h));
+      events = λ i h. subst (λ (x : Site). x .zone i .events ≤ r .records + 1) (sym q)
+          (omega (arith, events-step (callOf c) (siteOf r) i, s .events i h));
+      deps = λ i h. subst (λ (x : Site). x .zone i .deps < 2 ^ r .count) (sym q)
+          (deps-step (r .count) (callOf c) (siteOf r) i (sited c r p) (s .deps i h));
       lens = lens-step c r w s (p .asks);
-      sets = λ i j o. subst (λ (x : Site). setsWithin (r .count) (x .channel i j) ≡ true) (sym q) (sets-step (r .count) (callOf c) (siteOf r) (s .most) (sited c r p) (s .deps) (s .sets) i j o);
+      sets = λ i j o. subst (λ (x : Site). setsWithin (r .count) (x .channel i j) ≡ true) (sym q)
+          (sets-step (r .count) (callOf c) (siteOf r) (s .most) (sited c r p) (s .deps) (s .sets) i j o);
       cars = omega (arith, s .cars);
     }
 
@@ -252,6 +259,7 @@ open-sound count stocks = go (open-outcome count stocks)
         ∙ opened-sound 2 (0 ∷ 0 ∷ []) (omega arith) (omega arith) refl (omega arith)
 
 -- Every true run is sound.
-pub true-sound : (count : ℕ) (stocks : List ℕ) (cs : List SiteCall) → AllTyped cs → isSound (after cs (openCall count stocks .run)) ≡ true
+pub true-sound : (count : ℕ) (stocks : List ℕ) (cs : List SiteCall) → AllTyped cs
+    → isSound (after cs (openCall count stocks .run)) ≡ true
 true-sound count stocks cs t =
     after-sound cs (openCall count stocks .run) (open-whole count stocks) t (open-sound count stocks)

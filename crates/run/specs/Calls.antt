@@ -15,7 +15,7 @@ use Rattle.local.specs.declared.Asked.{Asked}
 use Rattle.channel.specs.Words.{itemOf, messageWord}
 use Rattle.channel.specs.Channels.{place, lenOf, isFree, pushed, popped, firstOf, allFree, requestedAll}
 use Rattle.channel.specs.declared.Channels.{Channels}
-use Rattle.run.specs.Below.{sum}
+use Rattle.rules.specs.Below.{sum}
 use Rattle.run.specs.Layout.{sendRecord, receiveRecord, startRecord}
 use Rattle.run.specs.State.{runAs, zoneAt, isSound, hasStarted, openedRun}
 use Rattle.run.specs.declared.Run.{Run}

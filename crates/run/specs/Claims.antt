@@ -36,8 +36,8 @@ AllTyped (c ∷ cs) = Typed c × AllTyped cs
 abbrev pub allCars : Run → ℕ
 allCars r = stocks (r .count) (r .zones) + carsOnChannels (r .count) (r .channels)
 
--- What a sound run answers to a hand-over, by the zone count, the number of records, the sender's stock and the channel's length alone:
--- whether a recording is started is not asked.
+-- What a sound run answers to a hand-over, by the zone count, the number of records, the sender's stock and the channel's length
+-- alone: whether a recording is started is not asked.
 abbrev pub sendQuestions : (count records stock len from to cars : ℕ) → List Question
 sendQuestions count records stock len from to cars =
     question 5 (isPair count from to)

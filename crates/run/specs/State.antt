@@ -14,7 +14,7 @@ use Rattle.rules.specs.declared.Checkpoint.the-variants.{None}
 use Rattle.channel.specs.Words.{carsIn, setIn}
 use Rattle.channel.specs.Channels.{channelsAs, lenOf, itemsOn}
 use Rattle.channel.specs.declared.Channels.{Channels}
-use Rattle.run.specs.Below.{allBelow, anyBelow, sumBelow, listBelow}
+use Rattle.rules.specs.Below.{allBelow, anyBelow, sumBelow, listBelow}
 use Rattle.run.specs.declared.Run.{Run}
 
 -- A run of its parts.

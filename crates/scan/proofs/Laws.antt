@@ -14,7 +14,7 @@ use Rattle.rules.specs.Sets.{within}
 use Rattle.channel.specs.Words.{itemOf, setIn, carsIn}
 use Rattle.channel.specs.Channels.{wordsOn, lenOf}
 use Rattle.channel.specs.declared.Channels.{Channels}
-use Rattle.run.specs.Below.{allBelow, sumBelow}
+use Rattle.rules.specs.Below.{allBelow, sumBelow}
 use Rattle.run.specs.State.{setsWithin, carsOf}
 
 pub and-true : (b : Bool) → b && true ≡ b

@@ -5,7 +5,7 @@ use native.Mathlib.Numerals.{add-one}
 use native.Mathlib.Omega.{arith}
 use borrow.Author.Needs.{needs}
 use Rattle.channel.specs.Channels.{channelsAs}
-use Rattle.run.specs.Below.{allBelow, sumBelow}
+use Rattle.rules.specs.Below.{allBelow, sumBelow}
 use Rattle.run.specs.State.{channelsSound, carsOnChannels}
 use Rattle.scan.specs.At.{soundAt, carsAt}
 use Rattle.scan.proofs.Laws.{all-to, sum-to}

@@ -5,7 +5,7 @@ use Prim.Native.Nat.{ℕ, _+_, _-_, _*_, _<_, _≤_}
 use native.Mathlib.Numerals.{add-one}
 use native.Mathlib.Omega.{arith}
 use borrow.Author.Needs.{needs}
-use Rattle.run.specs.Below.{allBelow, sumBelow}
+use Rattle.rules.specs.Below.{allBelow, sumBelow}
 use Rattle.run.specs.State.{zoneAt, zoneSound, zonesSound, stocks}
 use Rattle.scan.proofs.Laws.{all-to, sum-to}
 use Rattle.scan.proofs.zones_of.Statement.{statement}

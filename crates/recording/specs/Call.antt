@@ -1,0 +1,49 @@
+-- The recording call: "Recording: 1, 12, 13, 14."
+use mathlib.Core.Bool.{Bool, true, false, not, _||_}
+use mathlib.Core.List.{List, [], _∷_}
+use Prim.Native.Nat.{ℕ, _*_}
+use lib.Dec.{leb}
+use lib.ListN.{length, take}
+use Rattle.rules.specs.Cut.{Snapshot, snapshot}
+use Rattle.rules.specs.Limits.{mostZones}
+use Rattle.rules.specs.Questions.{question, ask}
+use Rattle.rules.specs.Site.{Call, waits}
+use Rattle.channel.specs.Channels.{itemsOn}
+use Rattle.channel.specs.declared.Channels.{Channels}
+use Rattle.rules.specs.Below.{allBelow}
+use Rattle.run.specs.Lists.{callOf}
+use Rattle.run.specs.Model.{stocksOf}
+use Rattle.run.specs.State.{isChannel, hasStarted}
+use Rattle.run.specs.declared.Run.{Run}
+use Rattle.journal.specs.Format.{Record, call, malformed, decode}
+use Rattle.journal.specs.Writing.{isReplayed, Output, refusedOutput, writtenOutput}
+use Rattle.recording.specs.Layout.{recordingBytes}
+
+-- The calls of some records, in order, as the rules have them.
+abbrev pub callIn : Record → List Call → List Call
+callIn (call c) cs = callOf c ∷ cs
+callIn malformed cs = cs
+
+abbrev pub callsIn : List ℕ → List Call
+callsIn [] = []
+callsIn (w ∷ ws) = callIn (decode w) (callsIn ws)
+
+-- The recording of a run, by the rules applied to its opening and its journal's calls.
+abbrev pub snapshotOf : Run → Snapshot
+snapshotOf r = snapshot (stocksOf (take (r .count) (r .opening))) (callsIn (take (r .records) (r .journal)))
+
+-- Question 13: "Is every line free of requests?"
+unfoldable pub noRequests : ℕ → Channels → Bool
+noRequests count l = allBelow (mostZones * mostZones) (λ k. not (isChannel count k) || not (waits (itemsOn l k)))
+
+unfoldable pub recordCall : Run → List ℕ → Output
+recordCall r lent =
+    ask (
+    question 1 (isReplayed r)
+    ∷ question 12 (hasStarted (r .count) (r .zones))
+    ∷ question 13 (noRequests (r .count) (r .channels))
+    ∷ question 14 (leb (length (recordingBytes (r .count) (snapshotOf r))) (length lent))
+    ∷ []
+    )
+    (refusedOutput lent)
+    (writtenOutput lent (recordingBytes (r .count) (snapshotOf r)))

@@ -1,0 +1,35 @@
+-- The recording's layout: "a header word, edition (3), zones minus one (3), number of items on lines (10); for each zone a word with firm
+-- (1 bit), zero (5), events (10), then a word of stock; then each item as a kind 0 record, by sender, then receiver, then order sent."
+use mathlib.Core.Bool.{Bool, cond}
+use mathlib.Core.List.{List, [], _∷_, _++_, map}
+use Prim.Native.Nat.{ℕ, zero, suc, _+_, _*_, _/_, _%_}
+use lib.ListN.{length}
+use Rattle.rules.specs.Cut.{Snapshot}
+use Rattle.rules.specs.Limits.{mostZones}
+use Rattle.run.specs.Layout.{sendRecord}
+use Rattle.run.specs.State.{isChannel}
+use Rattle.journal.specs.Bytes.{wordsBytes}
+use Rattle.journal.specs.Format.{headerWord}
+
+-- Lists one after another, for the numbers below n.
+abbrev pub joinBelow : {A : Type 0} → ℕ → (ℕ → List A) → List A
+joinBelow zero f = []
+joinBelow (suc n) f = joinBelow n f ++ f n
+
+-- The two words of the zone at index i.
+abbrev pub zoneWords : Snapshot → ℕ → List ℕ
+zoneWords s i = (cond (s .recorded i) 32768 0 + s .events i) ∷ s .park .stock i ∷ []
+
+-- The words of the items on the channel at place k; none where the site has no channel there.
+abbrev pub channelWords : Snapshot → ℕ → List ℕ
+channelWords s k = map (sendRecord (k / mostZones) (k % mostZones)) (s .park .channel (k / mostZones) (k % mostZones))
+
+unfoldable pub itemWords : ℕ → Snapshot → List ℕ
+itemWords count s = joinBelow (mostZones * mostZones) (λ k. cond (isChannel count k) (channelWords s k) [])
+
+-- The words and the bytes of a recording of a site of so many zones.
+abbrev pub recordingWords : ℕ → Snapshot → List ℕ
+recordingWords count s = headerWord count (length (itemWords count s)) ∷ joinBelow count (zoneWords s) ++ itemWords count s
+
+unfoldable pub recordingBytes : ℕ → Snapshot → List ℕ
+recordingBytes count s = wordsBytes (recordingWords count s)

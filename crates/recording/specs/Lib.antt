@@ -1,0 +1,4 @@
+pub mod Layout
+pub mod Call
+pub mod Records
+pub mod Shown

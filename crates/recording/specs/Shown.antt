@@ -1,0 +1,40 @@
+-- What the bytes of a recording show: "The recorded zones (those shown firm), events, stocks and lines are those in the bytes it writes."
+use mathlib.Core.Bool.{Bool, true, false, _&&_, cond}
+use mathlib.Core.List.{List, [], _∷_}
+use Prim.Native.Nat.{ℕ, _+_, _*_, _/_, _%_}
+use lib.Dec.{leb, ltb, eqb}
+use Rattle.rules.specs.Change.{cons-if}
+use Rattle.rules.specs.Cut.{Snapshot}
+use Rattle.rules.specs.Limits.{mostZones}
+use Rattle.channel.specs.Channels.{place}
+use Rattle.journal.specs.Bytes.{wordAt, wordsFrom}
+use Rattle.journal.specs.Format.{zonesIn, numberIn}
+
+-- The two words of the zone at index k.
+abbrev pub zoneWord : List ℕ → ℕ → ℕ
+zoneWord bytes k = wordAt bytes (2 + 4 * k)
+
+abbrev pub stockWord : List ℕ → ℕ → ℕ
+stockWord bytes k = wordAt bytes (4 + 4 * k)
+
+abbrev pub hasZone : List ℕ → ℕ → Bool
+hasZone bytes k = ltb k (zonesIn (wordAt bytes 0))
+
+-- The words of the items.
+abbrev pub itemsIn : List ℕ → List ℕ
+itemsIn bytes = wordsFrom bytes (2 + 4 * zonesIn (wordAt bytes 0)) (numberIn (wordAt bytes 0))
+
+-- The cars of the items on the channel at place k: kind 0 records, whose high byte is the place.
+abbrev pub carsAt : ℕ → List ℕ → List ℕ
+carsAt k [] = []
+carsAt k (w ∷ ws) = cons-if (eqb (w / 256) k) (w % 256) (carsAt k ws)
+
+abbrev pub shownIn : List ℕ → Snapshot
+shownIn bytes = record {
+  recorded = λ k. hasZone bytes k && leb 32768 (zoneWord bytes k);
+  events = λ k. cond (hasZone bytes k) (zoneWord bytes k % 1024) 0;
+  park = record {
+    stock = λ k. cond (hasZone bytes k) (stockWord bytes k) 0;
+    channel = λ i j. cond (ltb i mostZones && ltb j mostZones) (carsAt (place i j) (itemsIn bytes)) [];
+  };
+}

@@ -1,0 +1,58 @@
+-- Short lists of calls, computed: openings and calls of every kind are accepted, and do what the rules say. Assumes nothing.
+use mathlib.Core.Path.{_≡_, refl}
+use mathlib.Core.Bool.{true, false}
+use mathlib.Core.List.{List, [], _∷_}
+use lib.ListN.{replicate}
+use Rattle.rules.specs.Questions.{isCount, isOn}
+use Rattle.rules.specs.Sets.{has, members}
+use Rattle.rules.specs.Site.{message, request, send, receive, start}
+use Rattle.local.specs.Asked.{requestedBy, startedBy}
+use Rattle.channel.specs.Words.{itemOf, messageWord}
+use Rattle.channel.specs.Channels.{pushed, movedDown, popped, allFree, requestedAll}
+use Rattle.run.specs.State.{isChannel, zoneSound, zonesSound, channelSound, channelsSound, stocks, carsOnChannels, partsSound, hasStarted, openedRun}
+use Rattle.run.specs.Calls.{isPair, openCall, sendCall, receiveCall, startCall}
+use Rattle.run.specs.Model.{siteOf}
+use Rattle.run.specs.Lists.{SiteCall, Send, Receive, Start, answer, after, acceptedCalls}
+use Rattle.run.specs.Claims.{allCars}
+use Rattle.run.specs.declared.Run.{Run}
+
+-- Three zones with 10, 20 and 30 cars.
+abbrev three : Run
+three = openCall 3 (10 ∷ 20 ∷ 30 ∷ []) .run
+
+-- Zone 2 takes a mutable checkpoint by the second message of zone 1, so that its own message to zone 3 bears the flag; it is
+-- refused as a second starter.
+abbrev flagged : List SiteCall
+flagged = Send 1 2 5 ∷ Start 1 ∷ Send 1 2 4 ∷ Receive 1 2 ∷ Receive 1 2 ∷ Send 2 3 1 ∷ []
+
+abbrev Flag : Type 0
+Flag = (siteOf (after flagged three) .channel 1 2 ≡ message 1 true ∷ []) × (siteOf (after flagged three) .channel 0 1 ≡ [])
+    × (siteOf (after flagged three) .zone 1 .stock ≡ 28) × (allCars (after flagged three) ≡ 60)
+    × (answer (Start 2) (after flagged three) .refusal ≡ 11)
+
+-- The first message of a channel leaves first.
+abbrev two : List SiteCall
+two = Send 1 2 5 ∷ Send 1 2 4 ∷ Receive 1 2 ∷ []
+
+abbrev First : Type 0
+First = (siteOf (after two three) .channel 0 1 ≡ message 4 false ∷ []) × (siteOf (after two three) .zone 1 .stock ≡ 25)
+
+-- Zone 1 depends on zone 2, and zone 3 on zone 1; zone 3 starts and asks zone 1, which asks zone 2, carrying all three.
+abbrev asking : List SiteCall
+asking = Send 2 1 0 ∷ Receive 2 1 ∷ Send 1 3 0 ∷ Receive 1 3 ∷ Start 3 ∷ Receive 3 1 ∷ []
+
+abbrev Sent : Type 0
+Sent = (siteOf (after asking three) .channel 0 1 ≡ request 7 ∷ []) × (siteOf (after asking three) .channel 2 0 ≡ [])
+    × (acceptedCalls asking three ≡ send 1 0 0 ∷ receive 1 0 ∷ send 0 2 0 ∷ receive 0 2 ∷ start 2 ∷ receive 2 0 ∷ [])
+
+-- With the channel from zone 1 to zone 2 full, the request to zone 1 is refused with 10 and stays where it is.
+abbrev full : List SiteCall
+full = Send 2 1 0 ∷ Receive 2 1 ∷ Send 1 3 0 ∷ Receive 1 3 ∷ Start 3 ∷ replicate 16 (Send 1 2 0)
+
+abbrev Refused : Type 0
+Refused = (answer (Receive 3 1) (after full three) .refusal ≡ 10)
+    × (siteOf (answer (Receive 3 1) (after full three) .run) .channel 2 0 ≡ request 5 ∷ [])
+
+pub computed : Flag × First × Sent × Refused
+unfolding isCount isOn has members requestedBy startedBy itemOf messageWord pushed movedDown popped allFree requestedAll isChannel zoneSound zonesSound channelSound channelsSound stocks carsOnChannels partsSound hasStarted openedRun isPair openCall sendCall receiveCall startCall
+computed = ((refl, refl, refl, refl, refl), (refl, refl), (refl, refl, refl), (refl, refl))
