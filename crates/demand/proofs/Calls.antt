@@ -1,0 +1,37 @@
+-- Calls known by their contracts alone lead where the definitions lead. Assumes nothing.
+use mathlib.Core.Path.{_≡_, refl, sym, _∙_, ap, subst}
+use mathlib.Core.List.{List, [], _∷_}
+use Prim.Native.Nat.{ℕ}
+use lib.Dec.{eqb}
+use Rattle.rules.specs.Change.{cons-if}
+use Rattle.rules.specs.Site.{Call}
+use Rattle.run.specs.Claims.{Typed, AllTyped}
+use Rattle.run.specs.Lists.{SiteCall, Send, Receive, Start, answer, callOf, after, acceptedCalls}
+use Rattle.run.specs.declared.Run.{Run}
+use Rattle.run.specs.declared.Answer.{Answer}
+use Rattle.demand.specs.Made.{Answered, Made, done, then}
+
+answered-is : (c : SiteCall) (r : Run) (a : Answer) → Answered c r a → a ≡ answer c r
+answered-is (Send from to cars) r a e = e
+answered-is (Receive from to) r a e = e
+answered-is (Start zone) r a e = e
+
+-- What a list of calls, made one after another, comes to.
+pub record Comes (r : Run) (cs : List SiteCall) (accepted : List Call) (r′ : Run) : Type 0 where
+  pub typed : AllTyped cs
+  pub calls : accepted ≡ acceptedCalls cs r
+  pub result : r′ ≡ after cs r
+
+comes-more : (r r′ : Run) (c : SiteCall) (cs : List SiteCall) (accepted : List Call) (a : Answer) → Typed c → a ≡ answer c r → Comes (a .run) cs accepted r′
+    → Comes r (c ∷ cs) (cons-if (eqb (a .refusal) 0) (callOf c) accepted) r′
+comes-more r r′ c cs accepted a t e h =
+    subst (λ (x : Answer). Comes (x .run) cs accepted r′ → Comes r (c ∷ cs) (cons-if (eqb (x .refusal) 0) (callOf c) accepted) r′) (sym e)
+    (λ (w : Comes (answer c r .run) cs accepted r′). record {
+      typed = (t, w .typed);
+      calls = ap (cons-if (eqb (answer c r .refusal) 0) (callOf c)) (w .calls);
+      result = w .result;
+    }) h
+
+pub made-comes : {r r′ : Run} {cs : List SiteCall} {accepted : List Call} → Made r cs accepted r′ → Comes r cs accepted r′
+made-comes done = record { typed = tt; calls = refl; result = refl }
+made-comes (then {r} {r′} {c} {cs} {accepted} a t e m) = comes-more r r′ c cs accepted a t (answered-is c r a e) (made-comes m)

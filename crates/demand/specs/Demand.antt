@@ -1,0 +1,29 @@
+-- Demand 3, whole: what is claimed of an accepted opening, any list of calls on its run, and a recording call after it.
+use mathlib.Core.Path.{_≡_}
+use mathlib.Core.List.{List, [], _∷_}
+use Prim.Native.Nat.{ℕ, _≤_}
+use lib.ListN.{length}
+use Rattle.rules.specs.Cut.{Complete, Cut, run, present, snapshot}
+use Rattle.rules.specs.Site.{Call, openS}
+use Rattle.run.specs.Claims.{Among}
+use Rattle.run.specs.Model.{siteOf}
+use Rattle.run.specs.declared.Run.{Run}
+use Rattle.journal.specs.declared.Written.{Written}
+use Rattle.recording.specs.Layout.{recordingBytes}
+use Rattle.recording.specs.Shown.{shownIn}
+
+-- v: the opening stocks; cs: the accepted calls in order; r: the run after the list; lent: the bytes lent to the recording call; w, bytes:
+-- what it answered, and the lent bytes after it.
+pub record Demand (v : ℕ → ℕ) (cs : List Call) (r : Run) (lent : List ℕ) (w : Written) (bytes : List ℕ) : Type 1 where
+  -- "Exactly when it is complete does a recording call after the list, lent enough bytes, answer 0."
+  pub only-complete : w .refusal ≡ 0 → Complete (run cs (openS v))
+  pub if-complete : Complete (run cs (openS v)) → length (recordingBytes (r .count) (snapshot v cs)) ≤ length lent → w .refusal ≡ 0
+  -- "The recorded zones (those shown firm), events, stocks and lines are those in the bytes it writes."
+  pub cut : w .refusal ≡ 0 → Cut v cs (shownIn bytes)
+  -- The second part of the replay ends with "those of the run after the list, requests and marked bits left out".
+  pub ends : present (run cs (openS v)) ≡ present (siteOf r)
+  -- "The new one may refuse to show a count of a true run only if none was started, a request is still under way or too few bytes were
+  -- lent."
+  pub refusals : Among (w .refusal) (0 ∷ 12 ∷ 13 ∷ 14 ∷ [])
+  -- 2,034 bytes are enough for any recording.
+  pub enough : length (recordingBytes (r .count) (snapshot v cs)) ≤ 2034

@@ -1,0 +1,291 @@
+-- The items of a recording by the rules are those that the journal's records and their own-event numbers show. Assumes nothing.
+use mathlib.Core.Path.{_≡_, refl, sym, _∙_, ap, ap₂}
+use mathlib.Core.Bool.{Bool, true, false, _&&_, and-false, true≢false}
+use mathlib.Core.Logic.{_⊎_, inl, inr}
+use mathlib.Core.List.{List, [], _∷_, map}
+use Prim.Native.Nat.{ℕ, zero, suc, _+_, _/_, _%_, _≤_, _<_}
+use native.Mathlib.Omega.{arith}
+use lib.Dec.{ltb, eqb}
+use lib.ListN.{drop, getD}
+use borrow.Author.Tests.{eq-eqb, ne-eqb, le-leb}
+use Rattle.rules.specs.Change.{on, cons-if}
+use Rattle.rules.specs.Questions.{index}
+use Rattle.rules.specs.Site.{Site, Call, send, receive, start, stepS, openS}
+use Rattle.rules.specs.Park.{Move, hand, take, isInside, insideFrom, hands, takes}
+use Rattle.rules.specs.Cut.{moves, snapshot}
+use Rattle.rules.specs.declared.Local.{Local}
+use Rattle.rules.proofs.Tests.{both-true, eqb-refl}
+use Rattle.channel.specs.Channels.{place}
+use Rattle.run.specs.Calls.{openCall}
+use Rattle.run.specs.Claims.{WholeRun, Typed, recordOf}
+use Rattle.run.specs.Layout.{sendRecord, receiveRecord}
+use Rattle.run.specs.Lists.{SiteCall, Send, Receive, Start, answer, callOf, isAccepted}
+use Rattle.run.specs.Model.{siteOf, stocksOf}
+use Rattle.run.specs.State.{zoneAt, openedRun}
+use Rattle.run.specs.declared.Answer.{Answer}
+use Rattle.run.specs.declared.Run.{Run}
+use Rattle.run.proofs.Outcome.{Passed, passed, is-open}
+use Rattle.run.proofs.Parts.{zone-on, parts}
+use Rattle.run.proofs.Refine.{refine, opened-site}
+use Rattle.run.proofs.Whole.{call-whole, opened-whole}
+use Rattle.journal.specs.Format.{call}
+use Rattle.journal.specs.Owns.{actor, numberOf, ownNumber, ownNumbers}
+use Rattle.journal.specs.Reading.{replayed}
+use Rattle.recording.specs.Call.{callsIn}
+use Rattle.recording.specs.Layout.{channelWords}
+use Rattle.recording.specs.Records.{isIn, sendsOn, takesOn, sentWords, takenCount, itemsAt}
+use Rattle.recording.proofs.Chain.{Chain, done, next, chain}
+use Rattle.recording.proofs.Moved.{eventsIn, actorOf, Quiet, Moved, sent-moved, start-quiet, received-moves, quiet-number, moved-number, insideRest, insideAll, quiet-inside, moved-inside}
+
+-- The zone that acts in an accepted call is on the site.
+acts : (c : SiteCall) (r : Run) → Passed c r → actor c < r .count
+acts (Send from to cars) r p = p .asks .0 .from
+acts (Receive from to) r p = p .asks .0 .to
+acts (Start zone) r p = p .asks .0
+
+same-actor : (c : SiteCall) → actor c ≡ actorOf (callOf c)
+same-actor (Send from to cars) = refl
+same-actor (Receive from to) = refl
+same-actor (Start zone) = refl
+
+-- The own-event number of an accepted call, by the rules.
+number-is : (c : SiteCall) (r : Run) → WholeRun r → Typed c → isAccepted c r ≡ true
+    → ownNumber (call c) r
+    ≡ numberOf (eventsIn (siteOf r) (actorOf (callOf c))) (eventsIn (stepS (callOf c) (siteOf r)) (actorOf (callOf c)))
+number-is c r w t e =
+    let p = passed c r e in
+    let k = actor c in
+    let h = acts c r p in
+    let q : answer c r .run .count ≡ r .count = ap (λ (x : Answer). x .run .count) (p .result) in
+    let before : zoneAt (r .zones) k .events ≡ eventsIn (siteOf r) k = ap (λ (z : Local). z .events) (sym (zone-on r k h)) in
+    let after : zoneAt (answer c r .run .zones) k .events ≡ eventsIn (stepS (callOf c) (siteOf r)) k =
+    ap (λ (z : Local). z .events) (sym (zone-on (answer c r .run) k (omega arith))) ∙ ap (λ (s : Site). eventsIn s k) (refine c r w t e .0) in
+    ap₂ numberOf before after
+    ∙ ap (λ (k : ℕ). numberOf (eventsIn (siteOf r) k) (eventsIn (stepS (callOf c) (siteOf r)) k)) (same-actor c)
+
+-- A place is that of one pair of zones.
+same-place : (x y base a b i j : ℕ) → x ≡ base + place a b → y ≡ base + place i j → a < 8 → b < 8 → i < 8 → j < 8
+    → eqb x y ≡ eqb i a && eqb j b
+same-place x y base a b i j p q ha hb hi hj = go (eqb i a && eqb j b) refl
+  where
+    agree : i ≡ a → j ≡ b → eqb i a && eqb j b ≡ true
+    agree e f = rw (e, f, eqb-refl a, eqb-refl b)
+
+    go : (t : Bool) → eqb i a && eqb j b ≡ t → eqb x y ≡ t
+    go true e = let (m, n) = both-true i a j b e in eq-eqb x y (omega arith)
+    go false e = ne-eqb x y (λ z. true≢false (sym (agree (omega arith) (omega arith)) ∙ e))
+
+-- An own event is inside where its number is at most the events shown.
+inside-is : (n shown : ℕ) → isIn (suc n) shown ≡ ltb n shown
+inside-is n shown = rw (le-leb 1 (suc n) (omega arith))
+
+-- The inside moves of the records' calls from a site on.
+abbrev pub insideOf : (ℕ → ℕ) → List ℕ → Site → List Move
+insideOf shown ws s = insideFrom shown (eventsIn s) (moves (callsIn ws) s)
+
+module _ (i j : ℕ) where
+  -- The channel from i to j is that from a to b.
+  abbrev here : ℕ → ℕ → Bool
+  here a b = eqb i a && eqb j b
+
+  abbrev pub sentBy : List Move → List ℕ
+  sentBy ms = map (sendRecord i j) (hands i j ms)
+
+  -- A hand-over or a receipt before other moves.
+  hand-sent : (a b cars : ℕ) (p : Bool) (ms : List Move)
+      → sentBy (cons-if p (hand a b cars) ms) ≡ cons-if (here a b && p) (sendRecord a b cars) (sentBy ms)
+  hand-sent a b cars p ms = go p (here a b) refl
+    where
+      go : (p q : Bool) → here a b ≡ q → sentBy (cons-if p (hand a b cars) ms) ≡ cons-if (q && p) (sendRecord a b cars) (sentBy ms)
+      go true true e = let (x, y) = both-true i a j b e in rw (e, x, y)
+      go true false e = rw e
+      go false true e = refl
+      go false false e = refl
+
+  take-sent : (a b : ℕ) (p : Bool) (ms : List Move) → sentBy (cons-if p (take a b) ms) ≡ sentBy ms
+  take-sent a b true ms = refl
+  take-sent a b false ms = refl
+
+  hand-taken : (a b cars : ℕ) (p : Bool) (ms : List Move) → takes i j (cons-if p (hand a b cars) ms) ≡ takes i j ms
+  hand-taken a b cars true ms = refl
+  hand-taken a b cars false ms = refl
+
+  take-taken : (a b : ℕ) (p : Bool) (ms : List Move) → takes i j (cons-if p (take a b) ms) ≡ on (here a b && p) suc (takes i j ms)
+  take-taken a b p ms = go p (here a b) refl
+    where
+      go : (p q : Bool) → here a b ≡ q → takes i j (cons-if p (take a b) ms) ≡ on (q && p) suc (takes i j ms)
+      go true true e = rw e
+      go true false e = rw e
+      go false true e = refl
+      go false false e = refl
+
+  module _ (shown : ℕ → ℕ) (sh : List ℕ) (hi : i < 8) (hj : j < 8) (fi : getD sh i 0 ≡ shown i) (fj : getD sh j 0 ≡ shown j) where
+    -- The tests on words, for the records of moves with their own-event numbers.
+    sends-hand : (a b cars n : ℕ) → a < 8 → b < 8 → cars < 256
+        → sendsOn (place i j) sh (sendRecord a b cars) (suc n) ≡ here a b && ltb n (shown a)
+    sends-hand a b cars n ha hb hc =
+        rw (same-place (sendRecord a b cars / 256) (place i j) 0 a b i j (omega arith) (omega arith) ha hb hi hj) (go (here a b) refl)
+      where
+        go : (q : Bool) → here a b ≡ q → q && isIn (suc n) (getD sh (place i j / 8) 0) ≡ q && ltb n (shown a)
+        go true e =
+            let (x, y) = both-true i a j b e in
+            let z : place i j / 8 ≡ i = omega arith in
+            rw (z, fi, x) (inside-is n (shown a))
+        go false e = refl
+
+    takes-take : (a b n : ℕ) → a < 8 → b < 8 → takesOn (place i j) sh (receiveRecord a b) (suc n) ≡ here a b && ltb n (shown b)
+    takes-take a b n ha hb =
+        rw (same-place (receiveRecord a b / 256) (64 + place i j) 64 a b i j (omega arith) (omega arith) ha hb hi hj) (go (here a b) refl)
+      where
+        go : (q : Bool) → here a b ≡ q → q && isIn (suc n) (getD sh (place i j % 8) 0) ≡ q && ltb n (shown b)
+        go true e =
+            let (x, y) = both-true i a j b e in
+            let z : place i j % 8 ≡ j = omega arith in
+            rw (z, fj, y) (inside-is n (shown b))
+        go false e = refl
+
+    -- Words of another kind.
+    no-send : (word n : ℕ) → 16384 ≤ word → sendsOn (place i j) sh word n ≡ false
+    no-send word n h = rw (ne-eqb (word / 256) (place i j) (λ e. omega arith))
+
+    no-take : (word n : ℕ) → (word < 16384) ⊎ (32768 ≤ word) → takesOn (place i j) sh word n ≡ false
+    no-take word n (inl h) = rw (ne-eqb (word / 256) (64 + place i j) (λ e. omega arith))
+    no-take word n (inr h) = rw (ne-eqb (word / 256) (64 + place i j) (λ e. omega arith))
+
+    -- A receipt of a request has the number 0, which is never inside.
+    quiet-take : (word : ℕ) → takesOn (place i j) sh word 0 ≡ false
+    quiet-take word = and-false (eqb (word / 256) (64 + place i j))
+
+    -- An accepted call before others.
+    module _ (r : Run) (w : WholeRun r) (cs : List Call) where
+      abbrev Sends : SiteCall → Type 0
+      Sends c =
+          sentBy (insideAll shown (callOf c) cs (siteOf r))
+          ≡ cons-if (sendsOn (place i j) sh (recordOf c) (ownNumber (call c) r)) (recordOf c) (sentBy (insideRest shown (callOf c) cs (siteOf r)))
+
+      sends-first : (c : SiteCall) → Typed c → isAccepted c r ≡ true → Sends c
+      sends-first (Send from to cars) t e =
+          let a = index from in
+          let b = index to in
+          let m = sent-moved a b cars (siteOf r) in
+          let p = passed (Send from to cars) r e in
+          let few = parts r (p .sound) .most in
+          let number = number-is (Send from to cars) r w t e ∙ moved-number (send a b cars) (siteOf r) (hand a b cars) m in
+          rw (
+            number,
+            sends-hand a b cars (eventsIn (siteOf r) a) (omega (arith, p .asks .0 .from)) (omega (arith, p .asks .0 .to)) t,
+          )
+          (ap sentBy (moved-inside shown (send a b cars) cs (siteOf r) (hand a b cars) m) ∙ hand-sent a b cars _ _)
+      sends-first (Receive from to) t e =
+          rw (no-send (recordOf (Receive from to)) (ownNumber (call (Receive from to)) r) (omega arith))
+          (go (received-moves (index from) (index to) (siteOf r)))
+        where
+          a : ℕ
+          a = index from
+
+          b : ℕ
+          b = index to
+
+          go : Quiet (receive a b) (siteOf r) ⊎ Moved (receive a b) (siteOf r) (take a b)
+              → sentBy (insideAll shown (receive a b) cs (siteOf r)) ≡ sentBy (insideRest shown (receive a b) cs (siteOf r))
+          go (inl q) = ap sentBy (quiet-inside shown (receive a b) cs (siteOf r) q)
+          go (inr q) = ap sentBy (moved-inside shown (receive a b) cs (siteOf r) (take a b) q)
+              ∙ take-sent a b (isInside shown (eventsIn (siteOf r)) (take a b)) (insideRest shown (receive a b) cs (siteOf r))
+      sends-first (Start zone) t e =
+          rw (no-send (recordOf (Start zone)) (ownNumber (call (Start zone)) r) (omega arith))
+          (ap sentBy (quiet-inside shown (start (index zone)) cs (siteOf r) (start-quiet (index zone) (siteOf r))))
+
+      abbrev Takes : SiteCall → Type 0
+      Takes c =
+          takes i j (insideAll shown (callOf c) cs (siteOf r))
+          ≡ on (takesOn (place i j) sh (recordOf c) (ownNumber (call c) r)) suc (takes i j (insideRest shown (callOf c) cs (siteOf r)))
+
+      takes-first : (c : SiteCall) → Typed c → isAccepted c r ≡ true → Takes c
+      takes-first (Send from to cars) t e =
+          let a = index from in
+          let b = index to in
+          let m = sent-moved a b cars (siteOf r) in
+          let p = passed (Send from to cars) r e in
+          let few = parts r (p .sound) .most in
+          rw (no-take (sendRecord a b cars) (ownNumber (call (Send from to cars)) r) (inl (omega (arith, p .asks .0 .from, p .asks .0 .to))))
+          (ap (takes i j) (moved-inside shown (send a b cars) cs (siteOf r) (hand a b cars) m)
+          ∙ hand-taken a b cars (isInside shown (eventsIn (siteOf r)) (hand a b cars)) (insideRest shown (send a b cars) cs (siteOf r)))
+      takes-first (Receive from to) t e = go (received-moves (index from) (index to) (siteOf r))
+        where
+          a : ℕ
+          a = index from
+
+          b : ℕ
+          b = index to
+
+          p : Passed (Receive from to) r
+          p = passed (Receive from to) r e
+
+          go : Quiet (receive a b) (siteOf r) ⊎ Moved (receive a b) (siteOf r) (take a b) → Takes (Receive from to)
+          go (inl q) =
+              rw (number-is (Receive from to) r w t e ∙ quiet-number (receive a b) (siteOf r) q, quiet-take (receiveRecord a b))
+              (ap (takes i j) (quiet-inside shown (receive a b) cs (siteOf r) q))
+          go (inr q) =
+              let few = parts r (p .sound) .most in
+              rw (
+                number-is (Receive from to) r w t e ∙ moved-number (receive a b) (siteOf r) (take a b) q,
+                takes-take a b (eventsIn (siteOf r) b) (omega (arith, p .asks .0 .from)) (omega (arith, p .asks .0 .to)),
+              )
+              (ap (takes i j) (moved-inside shown (receive a b) cs (siteOf r) (take a b) q)
+              ∙ take-taken a b (isInside shown (eventsIn (siteOf r)) (take a b)) (insideRest shown (receive a b) cs (siteOf r)))
+      takes-first (Start zone) t e =
+          rw (no-take (recordOf (Start zone)) (ownNumber (call (Start zone)) r) (inr (omega arith)))
+          (ap (takes i j) (quiet-inside shown (start (index zone)) cs (siteOf r) (start-quiet (index zone) (siteOf r))))
+
+    -- Records that are accepted in turn.
+    pub sent-are : {ws : List ℕ} {r t : Run} → Chain ws r t → WholeRun r
+        → sentBy (insideOf shown ws (siteOf r)) ≡ sentWords (place i j) sh ws (ownNumbers ws r)
+    sent-are done w = refl
+    sent-are (next {w = word} {ws} {r} c d f typed a more) w =
+        let q = refine c r w typed a .0 in
+        let h = sent-are more (call-whole c r w) in
+        rw (d, a, ← f)
+        (sends-first r w (callsIn ws) c typed a
+        ∙ ap (cons-if (sendsOn (place i j) sh (recordOf c) (ownNumber (call c) r)) (recordOf c))
+        (ap (λ (s : Site). sentBy (insideOf shown ws s)) (sym q) ∙ h))
+
+    pub taken-are : {ws : List ℕ} {r t : Run} → Chain ws r t → WholeRun r
+        → takes i j (insideOf shown ws (siteOf r)) ≡ takenCount (place i j) sh ws (ownNumbers ws r)
+    taken-are done w = refl
+    taken-are (next {w = word} {ws} {r} c d f typed a more) w =
+        let q = refine c r w typed a .0 in
+        let h = taken-are more (call-whole c r w) in
+        rw (d, a, ← f)
+        (takes-first r w (callsIn ws) c typed a
+        ∙ ap (on (takesOn (place i j) sh (recordOf c) (ownNumber (call c) r)) suc)
+        (ap (λ (s : Site). takes i j (insideOf shown ws s)) (sym q) ∙ h))
+
+map-drop : {A B : Type 0} (f : A → B) (n : ℕ) (xs : List A) → map f (drop n xs) ≡ drop n (map f xs)
+map-drop f zero xs = refl
+map-drop f (suc n) [] = refl
+map-drop f (suc n) (x ∷ xs) = map-drop f n xs
+
+-- From an accepted opening: the items on the channel at a place.
+pub items-are : (count : ℕ) (stocks ws : List ℕ) (position : ℕ) → openCall count stocks .refusal ≡ 0
+    → replayed ws position (openedRun count stocks) .refusal ≡ 0 → (sh : List ℕ)
+    → (k : ℕ) → k < 64
+    → getD sh (k / 8) 0 ≡ snapshot (stocksOf stocks) (callsIn ws) .events (k / 8)
+    → getD sh (k % 8) 0 ≡ snapshot (stocksOf stocks) (callsIn ws) .events (k % 8)
+    → itemsAt k sh ws (ownNumbers ws (openedRun count stocks)) ≡ channelWords (snapshot (stocksOf stocks) (callsIn ws)) k
+items-are count stocks ws position o e sh k h fi fj =
+    let i = k / 8 in
+    let j = k % 8 in
+    let hi : i < 8 = omega arith in
+    let hj : j < 8 = omega arith in
+    let shown = snapshot (stocksOf stocks) (callsIn ws) .events in
+    let first = openS (stocksOf stocks) in
+    let c = chain ws position (openedRun count stocks) e in
+    let w = opened-whole count stocks in
+    let opened = is-open count stocks o in
+    let site = opened-site count stocks (opened .most) (opened .lengths) in
+    let f : place i j ≡ k = omega arith in
+    sym (map-drop (sendRecord i j) (takes i j (insideOf shown ws first)) (hands i j (insideOf shown ws first))
+    ∙ ap₂ (λ (n : ℕ) (xs : List ℕ). drop n xs)
+    (ap (λ (s : Site). takes i j (insideOf shown ws s)) (sym site) ∙ taken-are i j shown sh hi hj fi fj c w)
+    (ap (λ (s : Site). sentBy i j (insideOf shown ws s)) (sym site) ∙ sent-are i j shown sh hi hj fi fj c w)
+    ∙ ap (λ (k : ℕ). itemsAt k sh ws (ownNumbers ws (openedRun count stocks))) f)

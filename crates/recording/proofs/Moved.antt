@@ -1,0 +1,104 @@
+-- What a call adds to the own events of zones: one for the zone whose move it is, and nothing where it is no move. Assumes nothing.
+use mathlib.Core.Path.{_≡_, refl, sym, _∙_, ap}
+use mathlib.Core.Bool.{Bool, not}
+use mathlib.Core.Logic.{_⊎_, inl, inr}
+use mathlib.Core.List.{List, [], _∷_, _++_}
+use Prim.Native.Nat.{ℕ, suc}
+use native.Mathlib.Numerals.{add-one}
+use native.Mathlib.Omega.{arith}
+use lib.Dec.{eqb}
+use borrow.Author.Tests.{ne-eqb}
+use Rattle.rules.specs.Change.{cons-if}
+use Rattle.rules.specs.Zone.{isPermanent, sent, received, started, requested}
+use Rattle.rules.specs.Site.{Item, message, request, Site, Call, send, receive, start, popS, turnS, stepS, takeS}
+use Rattle.rules.specs.Park.{Move, hand, take, owner, isInside, counted, insideFrom}
+use Rattle.rules.specs.Cut.{moveOf, moves}
+use Rattle.rules.specs.declared.Local.{Local}
+use Rattle.rules.proofs.Guarded.{on-same, on-map}
+use Rattle.rules.proofs.Tests.{eqb-refl}
+use Rattle.journal.specs.Owns.{numberOf}
+
+-- The own events of each zone.
+abbrev pub eventsIn : Site → ℕ → ℕ
+eventsIn s k = s .zone k .events
+
+-- The zone that acts in a call.
+abbrev pub actorOf : Call → ℕ
+actorOf (send a b cars) = a
+actorOf (receive a b) = b
+actorOf (start a) = a
+
+-- The call is no move, or it is one of the zone that acts.
+pub record Quiet (c : Call) (s : Site) : Type 0 where
+  pub none : moveOf c s ≡ []
+  pub same : (k : ℕ) → eventsIn (stepS c s) k ≡ eventsIn s k
+
+pub record Moved (c : Call) (s : Site) (m : Move) : Type 0 where
+  pub one : moveOf c s ≡ m ∷ []
+  pub by : owner m ≡ actorOf c
+  pub more : (k : ℕ) → eventsIn (stepS c s) k ≡ counted (eventsIn s) m k
+
+pub sent-moved : (a b cars : ℕ) (s : Site) → Moved (send a b cars) s (hand a b cars)
+sent-moved a b cars s = record {
+  one = refl;
+  by = refl;
+  more = λ k. on-map (λ (z : Local). z .events) (eqb k a) (sent cars) suc (s .zone k) (add-one _);
+}
+
+pub start-quiet : (a : ℕ) (s : Site) → Quiet (start a) s
+start-quiet a s = record {
+  none = refl;
+  same = λ k. on-same (λ (z : Local). z .events) (eqb k a) started (s .zone k) refl;
+}
+
+pub received-moves : (a b : ℕ) (s : Site) → Quiet (receive a b) s ⊎ Moved (receive a b) s (take a b)
+received-moves a b s = go (s .channel a b) refl
+  where
+    got : (cars : ℕ) (flag : Bool) (xs : List Item) (k : ℕ) → eventsIn (takeS a b (message cars flag ∷ xs) s) k ≡ counted (eventsIn s) (take a b) k
+    got cars flag xs k = on-map (λ (z : Local). z .events) (eqb k b) (received a cars flag) suc (s .zone k) (add-one _)
+
+    turned : (set k : ℕ) (t : Site) → eventsIn (turnS b set t) k ≡ eventsIn t k
+    turned set k t = on-same (λ (z : Local). z .events) (eqb k b) requested (t .zone k) refl
+
+    go : (xs : List Item) → s .channel a b ≡ xs → Quiet (receive a b) s ⊎ Moved (receive a b) s (take a b)
+    go [] e = inl (record { none = rw e; same = λ k. rw e })
+    go (message cars flag ∷ xs) e = inr (record { one = rw e; by = refl; more = λ k. rw e (got cars flag xs k) })
+    go (request set ∷ xs) e =
+        inl (record {
+          none = rw e;
+          same = λ k. rw e
+              (on-same (λ (t : Site). eventsIn t k) (not (isPermanent (s .zone b .checkpoint))) (turnS b set) (popS a b s) (turned set k (popS a b s)));
+        })
+
+-- The own-event number of the call, of the counts of the zone that acts.
+pub quiet-number : (c : Call) (s : Site) → Quiet c s → numberOf (eventsIn s (actorOf c)) (eventsIn (stepS c s) (actorOf c)) ≡ 0
+quiet-number c s q = rw (q .same (actorOf c), eqb-refl)
+
+pub moved-number : (c : Call) (s : Site) (m : Move) → Moved c s m
+    → numberOf (eventsIn s (actorOf c)) (eventsIn (stepS c s) (actorOf c)) ≡ suc (eventsIn s (owner m))
+moved-number c s m q =
+    let n = eventsIn s (owner m) in
+    let e : eventsIn (stepS c s) (owner m) ≡ suc n = rw (q .more (owner m), eqb-refl) in
+    rw (← q .by, e, ne-eqb (suc n) n (λ x. omega arith))
+
+-- The inside moves of the call and of those behind it.
+counts : (shown : ℕ → ℕ) (n m : ℕ → ℕ) (ms : List Move) → ((k : ℕ) → n k ≡ m k) → insideFrom shown n ms ≡ insideFrom shown m ms
+counts shown n m ms e = ap (λ (f : ℕ → ℕ). insideFrom shown f ms) (λ x k. e k x)
+
+module _ (shown : ℕ → ℕ) (c : Call) (cs : List Call) (s : Site) where
+  abbrev pub insideRest : List Move
+  insideRest = insideFrom shown (eventsIn (stepS c s)) (moves cs (stepS c s))
+
+  abbrev pub insideAll : List Move
+  insideAll = insideFrom shown (eventsIn s) (moves (c ∷ cs) s)
+
+  pub quiet-inside : Quiet c s → insideAll ≡ insideRest
+  quiet-inside q =
+      ap (λ (ms : List Move). insideFrom shown (eventsIn s) (ms ++ moves cs (stepS c s))) (q .none)
+      ∙ counts shown (eventsIn s) (eventsIn (stepS c s)) (moves cs (stepS c s)) (λ k. sym (q .same k))
+
+  pub moved-inside : (m : Move) → Moved c s m → insideAll ≡ cons-if (isInside shown (eventsIn s) m) m insideRest
+  moved-inside m q =
+      ap (λ (ms : List Move). insideFrom shown (eventsIn s) (ms ++ moves cs (stepS c s))) (q .one)
+      ∙ ap (cons-if (isInside shown (eventsIn s) m) m)
+      (counts shown (counted (eventsIn s) m) (eventsIn (stepS c s)) (moves cs (stepS c s)) (λ k. sym (q .more k)))

@@ -1,0 +1,31 @@
+-- The texts of case A's recording and of a refused one, and short texts, by computing. Assumes nothing.
+use mathlib.Core.Path.{_≡_, refl}
+use mathlib.Core.List.{[], _∷_}
+use Rattle.text.specs.Codes.{codes}
+use Rattle.text.specs.Text.{digitCode, bytesText, decimalText, refusedText}
+
+case-a : bytesText (
+    0x28 ∷ 0x01 ∷ 0x80 ∷ 0x02 ∷ 0x00 ∷ 0x04 ∷ 0x80 ∷ 0x01 ∷ 0x00 ∷ 0x18 ∷ 0x00 ∷ 0x00 ∷ 0x00 ∷ 0x1E ∷ 0x02 ∷ 0x02 ∷ []
+    )
+    ≡ codes "28 01 80 02 00 04 80 01 00 18 00 00 00 1E 02 02\n"
+unfolding digitCode
+case-a = refl
+
+no-bytes : bytesText [] ≡ codes "\n"
+no-bytes = refl
+
+each-digit : bytesText (0x01 ∷ 0x23 ∷ 0x45 ∷ 0x67 ∷ 0x89 ∷ 0xAB ∷ 0xCD ∷ 0xEF ∷ []) ≡ codes "01 23 45 67 89 AB CD EF\n"
+unfolding digitCode
+each-digit = refl
+
+refused-13 : refusedText 13 ≡ codes "refused 13\n"
+unfolding digitCode decimalText
+refused-13 = refl
+
+refused-4 : refusedText 4 ≡ codes "refused 4\n"
+unfolding digitCode decimalText
+refused-4 = refl
+
+refused-255 : refusedText 255 ≡ codes "refused 255\n"
+unfolding digitCode decimalText
+refused-255 = refl

@@ -1,0 +1,10 @@
+-- The character codes of a quoted text.
+use mathlib.Core.List.{List}
+use mathlib.Core.List as lists
+use Prim.Native.Nat.{ℕ}
+use Prim.Native.Char.{code}
+use Prim.Native.String.{String, [], _∷_}
+
+abbrev pub codes : String → List ℕ
+codes [] = lists.[]
+codes (c ∷ s) = lists._∷_ (code c) (codes s)
