@@ -1,0 +1,90 @@
+/* Three controllers on lines of their own: case B of the product's rules. Prints each zone's count; exits 1 if a value is not as it must be. */
+#include <stdio.h>
+#include <stdlib.h>
+
+#include "zone.h"
+
+_Static_assert(sizeof(cut_zone) == 12, "a zone has 12 bytes");
+
+/* An item on a line: a hand-over (request 0) or a request with its set. */
+typedef struct {
+    uint8_t request, cars, flag, set;
+} item;
+
+static cut_zone zones[4];
+static item lines[4][4][8];
+static int first[4][4], last[4][4];
+
+static void must(int holds, const char *what)
+{
+    if (!holds) {
+        fprintf(stderr, "not as it must be: %s\n", what);
+        exit(1);
+    }
+}
+
+static void put(uint8_t from, uint8_t to, item i)
+{
+    lines[from][to][last[from][to]++] = i;
+}
+
+/* A request to each zone of the answer's set. */
+static void ask(uint8_t from, cut_step r)
+{
+    uint32_t n = zone_requests(r.to);
+    uint8_t rest = r.to;
+    for (uint32_t i = 0; i < n; i++) {
+        uint8_t to = zone_next(rest);
+        put(from, to, (item){1, 0, 0, r.carried});
+        rest &= (uint8_t)(rest - 1);
+    }
+}
+
+static void send(uint8_t from, uint8_t to, uint8_t cars)
+{
+    cut_step r = zone_send(zones[from], to, cars);
+    must(r.refusal == 0, "send");
+    zones[from] = r.zone;
+    put(from, to, (item){0, cars, r.flag, 0});
+}
+
+static void receive(uint8_t from, uint8_t to)
+{
+    item i = lines[from][to][first[from][to]];
+    cut_step r = i.request ? zone_request(zones[to], i.set) : zone_receive(zones[to], from, i.cars, i.flag);
+    must(r.refusal == 0, "receive");
+    first[from][to]++;
+    zones[to] = r.zone;
+    ask(to, r);
+}
+
+int main(void)
+{
+    for (uint8_t k = 1; k <= 3; k++) {
+        cut_opening o = zone_open(3, k, 10);
+        must(o.refusal == 0, "open");
+        zones[k] = o.zone;
+    }
+    send(3, 2, 1);
+    receive(3, 2);
+    send(2, 1, 1);
+    receive(2, 1);
+    cut_step r = zone_start(zones[1]);
+    must(r.refusal == 0, "start");
+    zones[1] = r.zone;
+    ask(1, r);
+    send(1, 3, 2);
+    receive(1, 3);
+    receive(1, 2);
+    receive(2, 3);
+    for (int k = 1; k <= 3; k++)
+        printf("zone %d: mark %d, events %d, stock %d\n", k, zones[k].mark, zones[k].saved.events, zones[k].saved.stock);
+    must(zones[3].mark == 2 && zones[3].saved.events == 1 && zones[3].saved.stock == 9, "zone 3 of case B");
+    must(zones[1].saved.stock == 11 && zones[2].saved.stock == 10, "zones 1 and 2 of case B");
+
+    cut_zone unsound = zones[1];
+    unsound.mark = 3;
+    r = zone_send(unsound, 2, 1);
+    must(r.refusal == 1 && r.zone.mark == 3 && r.zone.stock == unsound.stock, "a mark above 2 is refused as it came");
+    return 0;
+}
