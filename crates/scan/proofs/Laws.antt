@@ -14,7 +14,7 @@ use Rattle.rules.specs.Sets.{within}
 use Rattle.channel.specs.Words.{itemOf, setIn, carsIn}
 use Rattle.channel.specs.Channels.{wordsOn, lenOf}
 use Rattle.channel.specs.declared.Channels.{Channels}
-use Rattle.rules.specs.Below.{allBelow, sumBelow}
+use Rattle.rules.specs.Below.{allBelow, anyBelow, sumBelow}
 use Rattle.run.specs.State.{setsWithin, carsOf}
 
 pub and-true : (b : Bool) → b && true ≡ b
@@ -76,3 +76,6 @@ all-to f e = ap (λ (m : ℕ). allBelow m f) e
 
 pub sum-to : (f : ℕ → ℕ) {i n : ℕ} → i ≡ n → sumBelow i f ≡ sumBelow n f
 sum-to f e = ap (λ (m : ℕ). sumBelow m f) e
+
+pub any-to : (f : ℕ → Bool) {i n : ℕ} → i ≡ n → anyBelow i f ≡ anyBelow n f
+any-to f e = ap (λ (m : ℕ). anyBelow m f) e
