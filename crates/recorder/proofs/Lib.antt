@@ -1,0 +1,4 @@
+pub mod Shown
+pub mod Waiting
+pub mod Sized
+pub mod Recorded
