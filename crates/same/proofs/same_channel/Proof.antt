@@ -1,18 +1,15 @@
 -- `same::same_channel` meets its contract, by the words before the next one. Assumes nothing.
-use mathlib.Core.Path.{_≡_, _∙_, refl}
-use Prim.Native.Nat.{_+_, _*_, _-_, _<_, _≤_, min}
+use mathlib.Core.Path.{_≡_, refl}
+use Prim.Native.Nat.{_-_, _≤_}
 use native.Mathlib.Omega.{arith}
 use borrow.Author.Needs.{needs}
 use borrow.Author.Tests.{ne-eqb}
 use lib.ListN.{take}
-use Rattle.channel.specs.Channels.{channelsAs, wordsOn, lenOf}
+use Rattle.channel.specs.Channels.{channelsAs, wordsOn}
 use Rattle.journal.specs.Writing.{sameWords, sameChannel}
 use Rattle.same.proofs.Laws.{one-more, all-same}
 use Rattle.same.proofs.same_channel.Statement.{statement}
 use Rattle.same.proofs.same_channel.Tie as tie
-use Rattle.same.proofs.same_channel.Reads as reads
-use Rattle.same.proofs.same_channel.Lts as lts
-use Rattle.same.proofs.looked_at.Reads as looked-at-reads
 
 abbrev Inv-loop : tie.InvT-loop
 Inv-loop a alens b blens k len n same₀ p₀ same p =
@@ -21,60 +18,46 @@ Inv-loop a alens b blens k len n same₀ p₀ same p =
 abbrev μ-loop : tie.MeasureT-loop
 μ-loop a alens b blens k len n same₀ p₀ same p = n - p
 
--- src/lib.rt:98:15
 element-copy-out-len : tie.Need-element-copy-out-len Inv-loop μ-loop
 element-copy-out-len c = search needs
 
--- src/lib.rt:99:15
 element-copy-out-if1 : tie.Need-element-copy-out-if1 Inv-loop μ-loop
 element-copy-out-if1 c = search needs
 
--- src/lib.rt:100:9
 returns : tie.Need-returns Inv-loop μ-loop
 unfolding sameChannel
 returns c = rw (ne-eqb _ _ (c .if1 .taken))
 
--- src/lib.rt:102:9
 looked-at-requires : tie.Need-looked-at-requires Inv-loop μ-loop
 looked-at-requires c κs = search needs
 
--- src/lib.rt:105:5
 loop-holds : tie.Need-loop-holds Inv-loop μ-loop
 loop-holds c = (omega arith, refl)
 
--- src/lib.rt:106:18
 mul-at : tie.Need-mul-at Inv-loop μ-loop
 mul-at c = search needs
 
--- src/lib.rt:106:18
 add-at : tie.Need-add-at Inv-loop μ-loop
 add-at c = search needs
 
--- src/lib.rt:107:24
 mul-same : tie.Need-mul-same Inv-loop μ-loop
 mul-same c = search needs
 
--- src/lib.rt:107:24
 element-copy-out-same : tie.Need-element-copy-out-same Inv-loop μ-loop
 element-copy-out-same c = search needs
 
--- src/lib.rt:107:33
 mul-same-2 : tie.Need-mul-same-2 Inv-loop μ-loop
 mul-same-2 c = search needs
 
--- src/lib.rt:107:33
 element-copy-out-same-2 : tie.Need-element-copy-out-same-2 Inv-loop μ-loop
 element-copy-out-same-2 c = search needs
 
--- src/lib.rt:108:9
 add-p : tie.Need-add-p Inv-loop μ-loop
 add-p c = search needs
 
--- src/lib.rt:105:5
 loop-less : tie.Need-loop-less Inv-loop μ-loop
 loop-less c = search needs
 
--- src/lib.rt:105:5
 loop-again : tie.Need-loop-again Inv-loop μ-loop
 loop-again c =
     let b = c .before .before .before in
@@ -87,7 +70,6 @@ loop-again c =
           (omega (arith, b .before .looked-at .ensures, c .before .before .loop-test .taken)) (b .loop .inv .1),
     )
 
--- src/lib.rt:85:1
 returns-2 : tie.Need-returns-2 Inv-loop μ-loop
 returns-2 c =
     let b = c .before in

@@ -12,10 +12,6 @@ use Rattle.scan.proofs.Laws.{all-to}
 use Rattle.journal.specs.Writing.{sameChannel, sameChannels}
 use Rattle.same.proofs.same_channels.Statement.{statement}
 use Rattle.same.proofs.same_channels.Tie as tie
-use Rattle.same.proofs.same_channels.Reads as reads
-use Rattle.same.proofs.same_channels.Lts as lts
-use Rattle.same.proofs.same_channel.Reads as same-channel-reads
-use Rattle.scan.proofs.is_channel.Reads as is-channel-reads
 
 abbrev Inv-loop : tie.InvT-loop
 Inv-loop count a alens b blens same₀ k₀ same k =
@@ -24,32 +20,25 @@ Inv-loop count a alens b blens same₀ k₀ same k =
 abbrev μ-loop : tie.MeasureT-loop
 μ-loop count a alens b blens same₀ k₀ same k = 64 - k
 
--- src/lib.rt:129:5
 loop-holds : tie.Need-loop-holds Inv-loop μ-loop
 loop-holds c = (omega arith, refl)
 
--- src/lib.rt:130:13
 is-channel-requires : tie.Need-is-channel-requires Inv-loop μ-loop
 is-channel-requires c κs = search needs
 
--- src/lib.rt:131:13
 same-channel-requires : tie.Need-same-channel-requires Inv-loop μ-loop
 same-channel-requires c κs = search needs
 
--- src/lib.rt:133:9
 add-k : tie.Need-add-k Inv-loop μ-loop
 add-k c = search needs
 
--- src/lib.rt:129:5
 loop-less : tie.Need-loop-less Inv-loop μ-loop
 loop-less c = search needs
 
--- src/lib.rt:129:5
 loop-again : tie.Need-loop-again Inv-loop μ-loop
 loop-again c =
     let b = c .before .before .before in (omega arith, rw (add-one (b .loop .k), b .loop .inv .1, c .before .is-channel .ensures, c .same-channel .ensures))
 
--- src/lib.rt:114:1
 returns : tie.Need-returns Inv-loop μ-loop
 unfolding sameChannels
 returns c =

@@ -2,99 +2,73 @@
 use borrow.Author.Needs.{needs}
 use Rattle.same.proofs.same_checkpoint.Statement.{statement}
 use Rattle.same.proofs.same_checkpoint.Tie as tie
-use Rattle.same.proofs.same_checkpoint.Reads as reads
-use Rattle.same.proofs.same_checkpoint.Lts as lts
-use Rattle.same.proofs.same_saved.Reads as same-saved-reads
 
--- src/lib.rt:30:29
 enum-told : tie.Need-enum-told
 enum-told c = search needs
 
--- src/lib.rt:31:33
 enum-told-2 : tie.Need-enum-told-2
 enum-told-2 c = search needs
 
--- src/lib.rt:32:39
 enum-told-3 : tie.Need-enum-told-3
 enum-told-3 c = search needs
 
--- src/lib.rt:33:41
 enum-told-4 : tie.Need-enum-told-4
 enum-told-4 c = search needs
 
--- src/lib.rt:35:29
 enum-known-a : tie.Need-enum-known-a
 enum-known-a c = search needs
 
--- src/lib.rt:36:33
 enum-told-5 : tie.Need-enum-told-5
 enum-told-5 c = search needs
 
--- src/lib.rt:37:33
 enum-known-b : tie.Need-enum-known-b
 enum-known-b c = search needs
 
--- src/lib.rt:37:39
 same-saved-requires : tie.Need-same-saved-requires
 same-saved-requires c κs = search needs
 
--- src/lib.rt:38:41
 enum-told-6 : tie.Need-enum-told-6
 enum-told-6 c = search needs
 
--- src/lib.rt:40:31
 enum-known-a-2 : tie.Need-enum-known-a-2
 enum-known-a-2 c = search needs
 
--- src/lib.rt:41:33
 enum-told-7 : tie.Need-enum-told-7
 enum-told-7 c = search needs
 
--- src/lib.rt:42:39
 enum-told-8 : tie.Need-enum-told-8
 enum-told-8 c = search needs
 
--- src/lib.rt:43:35
 enum-known-b-2 : tie.Need-enum-known-b-2
 enum-known-b-2 c = search needs
 
--- src/lib.rt:43:41
 same-saved-requires-2 : tie.Need-same-saved-requires-2
 same-saved-requires-2 c κs = search needs
 
--- src/lib.rt:26:1
 returns : tie.Need-returns
 returns c = search needs
 
--- src/lib.rt:26:1
 returns-2 : tie.Need-returns-2
 returns-2 c = search needs
 
--- src/lib.rt:26:1
 returns-3 : tie.Need-returns-3
 returns-3 c = search needs
 
--- src/lib.rt:26:1
 returns-4 : tie.Need-returns-4
 returns-4 c = search needs
 
--- src/lib.rt:26:1
 returns-5 : tie.Need-returns-5
 returns-5 c = rw (c .same-saved .ensures, c .before .before .before .before .before .a .given .1, c .before .before .b .given .1)
 
--- src/lib.rt:26:1
 returns-6 : tie.Need-returns-6
 returns-6 c = search needs
 
--- src/lib.rt:26:1
 returns-7 : tie.Need-returns-7
 returns-7 c = search needs
 
--- src/lib.rt:26:1
 returns-8 : tie.Need-returns-8
 returns-8 c = search needs
 
--- src/lib.rt:26:1
 returns-9 : tie.Need-returns-9
 returns-9 c = rw (c .same-saved2 .ensures, c .before .before .before .before .before .a2 .given .1, c .before .before .b2 .given .1)
 

@@ -3,15 +3,10 @@ use Rattle.journal.specs.Writing.{sameLocal}
 use borrow.Author.Needs.{needs}
 use Rattle.same.proofs.same_local.Statement.{statement}
 use Rattle.same.proofs.same_local.Tie as tie
-use Rattle.same.proofs.same_local.Reads as reads
-use Rattle.same.proofs.same_local.Lts as lts
-use Rattle.same.proofs.same_checkpoint.Reads as same-checkpoint-reads
 
--- src/lib.rt:54:9
 same-checkpoint-requires : tie.Need-same-checkpoint-requires
 same-checkpoint-requires c κs = search needs
 
--- src/lib.rt:49:1
 returns : tie.Need-returns
 unfolding sameLocal
 returns c = rw (c .before .before .before .before .before .before .same-checkpoint .ensures)

@@ -10,9 +10,6 @@ use Rattle.scan.proofs.Laws.{all-to}
 use Rattle.journal.specs.Writing.{sameLocal, sameZones}
 use Rattle.same.proofs.same_zones.Statement.{statement}
 use Rattle.same.proofs.same_zones.Tie as tie
-use Rattle.same.proofs.same_zones.Reads as reads
-use Rattle.same.proofs.same_zones.Lts as lts
-use Rattle.same.proofs.same_local.Reads as same-local-reads
 
 abbrev Inv-loop : tie.InvT-loop
 Inv-loop count a b same₀ i₀ same i = (i ≤ count) × (same ≡ allBelow i (λ k. sameLocal (zoneAt a k) (zoneAt b k)))
@@ -20,44 +17,34 @@ Inv-loop count a b same₀ i₀ same i = (i ≤ count) × (same ≡ allBelow i (
 abbrev μ-loop : tie.MeasureT-loop
 μ-loop count a b same₀ i₀ same i = count - i
 
--- src/lib.rt:65:5
 loop-holds : tie.Need-loop-holds Inv-loop μ-loop
 loop-holds c = (omega arith, refl)
 
--- src/lib.rt:66:17
 mul-x : tie.Need-mul-x Inv-loop μ-loop
 mul-x c = search needs
 
--- src/lib.rt:66:17
 array-copy-out-x : tie.Need-array-copy-out-x Inv-loop μ-loop
 array-copy-out-x c = search needs
 
--- src/lib.rt:67:17
 mul-y : tie.Need-mul-y Inv-loop μ-loop
 mul-y c = search needs
 
--- src/lib.rt:67:17
 array-copy-out-y : tie.Need-array-copy-out-y Inv-loop μ-loop
 array-copy-out-y c = search needs
 
--- src/lib.rt:68:23
 same-local-requires : tie.Need-same-local-requires Inv-loop μ-loop
 same-local-requires c κs = search needs
 
--- src/lib.rt:69:9
 add-i : tie.Need-add-i Inv-loop μ-loop
 add-i c = search needs
 
--- src/lib.rt:65:5
 loop-less : tie.Need-loop-less Inv-loop μ-loop
 loop-less c = search needs
 
--- src/lib.rt:65:5
 loop-again : tie.Need-loop-again Inv-loop μ-loop
 loop-again c =
     let b = c .before .before .before .before in (omega arith, rw (add-one (b .loop .i), b .loop .inv .1, c .same-local .ensures))
 
--- src/lib.rt:59:1
 returns : tie.Need-returns Inv-loop μ-loop
 unfolding sameZones
 returns c =
