@@ -1,2 +1,4 @@
 pub mod Calls
 pub mod Recorded
+pub mod Three
+pub mod Premises

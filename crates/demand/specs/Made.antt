@@ -11,6 +11,8 @@ use Rattle.run.specs.Claims.{Typed}
 use Rattle.run.specs.Lists.{SiteCall, Send, Receive, Start, callOf}
 use Rattle.run.specs.declared.Run.{Run}
 use Rattle.run.specs.declared.Answer.{Answer}
+use Rattle.journal.specs.declared.Written.{Written}
+use Rattle.recorder.proofs.«record».Reads as recording
 use Rattle.site.proofs.«open».Reads as opening
 use Rattle.site.proofs.send.Reads as send
 use Rattle.site.proofs.receive.Reads as receive
@@ -32,3 +34,7 @@ pub data Made : Run → List SiteCall → List Call → Run → Type 0 where
   done : {r : Run} → Made r [] [] r
   then : {r r′ : Run} {c : SiteCall} {cs : List SiteCall} {accepted : List Call} (a : Answer) → Typed c → Answered c r a → Made (a .run) cs accepted r′
       → Made r (c ∷ cs) (cons-if (eqb (a .refusal) 0) (callOf c) accepted) r′
+
+-- What the contract of `recorder::record` says of an answer, and of the lent bytes before and after the call.
+abbrev pub Recorded : Lft → Run → RefT (List ℕ) → Written → RefT (List ℕ) → Type 0
+Recorded κ r lent w after = recording.Learnt (κ, tt) (r, (lent, tt)) w (r, (after, tt))

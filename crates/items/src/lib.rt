@@ -25,6 +25,7 @@ fn high_byte(word: u16) -> usize
 }
 
 // The events shown for the zone that acts, by the high byte of a record's word: the sender's for a message, the receiver's for a receipt.
+// A high byte is below 256.
 fn shown_for(shown: [u16; 8], high: usize) -> u16
     requires { ⌜ high < 256 ⌝ }
     ensures { λ r. ⌜ r ≡ getD shown (ownerOf high) 0 ⌝ }
@@ -36,7 +37,7 @@ fn shown_for(shown: [u16; 8], high: usize) -> u16
 }
 
 // The records that are inside the events shown, counted by the high byte of their word: messages sent on the channel at place k stand
-// at k, receipts on it at 64 + k.
+// at k, receipts on it at 64 + k. Each of the at most 1,000 records has its own-event number.
 pub fn counted(words: &[u16], owns: &[u16], shown: [u16; 8]) -> [u16; 256]
     requires { ⌜ (length (now words) ≤ 1000) × (length (now owns) ≡ length (now words)) ⌝ }
     ensures { λ r. ⌜ Counted r shown (now (words .entry)) (now (owns .entry)) ⌝ }
@@ -63,7 +64,7 @@ fn less(sent: u16, taken: u16) -> usize
     (sent - taken) as usize
 }
 
-// The number of items on the channel at place k; 0 where the site has no channel there.
+// The number of items on the channel at place k, which is below 64; 0 where the site has no channel there.
 fn number_at(count: u8, seen: &[u16; 256], k: usize) -> usize
     requires { ⌜ k < 64 ⌝ }
     ensures { λ r. ⌜ (r ≡ numberAt count (now (seen .entry)) k) × (r ≤ 65535) ⌝ }
@@ -91,7 +92,7 @@ pub fn number(count: u8, seen: &[u16; 256]) -> usize
 }
 
 // The words of the messages that were sent on the channel at place k inside the sender's events, but for the first `skip`, from the front
-// of the lent bytes on.
+// of the lent bytes on. Each record has its own-event number, and the caller has seen that there is room.
 fn write_channel(
     out: &mut [u8],
     words: &[u16],
@@ -128,7 +129,8 @@ fn write_channel(
     at
 }
 
-// The words of the items on the channel at place k, from the front of the lent bytes on; none where the site has no channel there.
+// The words of the items on the channel at place k, from the front of the lent bytes on; none where the site has no channel there. What
+// `counted` counted of these records is `seen`, and the caller has seen that there is room.
 fn write_at(
     out: &mut [u8],
     count: u8,
@@ -152,7 +154,8 @@ fn write_at(
     write_channel(out, words, owns, shown, k, seen[64 + k])
 }
 
-// The words of all items, by sender, then receiver, then order sent, from the front of the lent bytes on.
+// The words of all items, by sender, then receiver, then order sent, from the front of the lent bytes on. What `counted` counted of these
+// records is `seen`, and question 14 has seen that there is room.
 pub fn write(
     out: &mut [u8],
     count: u8,

@@ -1,15 +1,14 @@
 -- Question 14 by the number of items, and what is answered on either side of it. Assumes nothing.
-use mathlib.Core.Path.{_≡_, refl, sym, _∙_, ap}
-use mathlib.Core.List.{List, [], _∷_, _++_}
+use mathlib.Core.Path.{_≡_, sym, _∙_, ap}
+use mathlib.Core.List.{List, _∷_, _++_}
 use Prim.Native.Nat.{ℕ, _+_, _*_, _<_, _≤_}
 use native.Mathlib.Omega.{arith}
-use lib.Dec.{leb}
-use lib.ListN.{length, drop, length-append}
+use lib.ListN.{length, length-append}
 use borrow.Author.Tests.{le-leb, lt-leb}
 use Rattle.rules.specs.declared.Local.{Local}
 use Rattle.journal.specs.Bytes.{wordsBytes}
 use Rattle.journal.specs.Format.{headerWord}
-use Rattle.journal.specs.Writing.{Output, refusedOutput}
+use Rattle.journal.specs.Writing.{refusedOutput}
 use Rattle.journal.proofs.ByteLaws.{bytes-length}
 use Rattle.items.specs.Items.{allWords}
 use Rattle.items.specs.Wrote.{Wrote}

@@ -1,17 +1,12 @@
 -- `items::counted` meets its contract, by the counts over the records before the next one. Assumes nothing.
-use mathlib.Core.Path.{_≡_, refl, sym, _∙_, ap}
-use Prim.Native.Nat.{ℕ, _+_, _-_, _*_, _≤_}
+use mathlib.Core.Path.{_≡_, refl}
+use Prim.Native.Nat.{_-_, _≤_}
 use native.Mathlib.Omega.{arith}
 use borrow.Author.Needs.{needs}
 use lib.ListN.{length}
 use Rattle.items.proofs.Counting.{Seen, seen-none, seen-more, seen-all}
 use Rattle.items.proofs.counted.Statement.{statement}
 use Rattle.items.proofs.counted.Tie as tie
-use Rattle.items.proofs.counted.Reads as reads
-use Rattle.items.proofs.counted.Lts as lts
-use Rattle.items.proofs.high_byte.Reads as high-byte-reads
-use Rattle.items.proofs.inside.Reads as inside-reads
-use Rattle.items.proofs.shown_for.Reads as shown-for-reads
 
 abbrev Inv-loop : tie.InvT-loop
 Inv-loop words owns shown seen₀ i₀ i-end seen i = (i-end ≡ length words) × (i ≤ i-end) × Seen seen shown words owns i
@@ -19,69 +14,53 @@ Inv-loop words owns shown seen₀ i₀ i-end seen i = (i-end ≡ length words) �
 abbrev μ-loop : tie.MeasureT-loop
 μ-loop words owns shown seen₀ i₀ i-end seen i = i-end - i
 
--- src/lib.rt:45:5
 loop-holds : tie.Need-loop-holds Inv-loop μ-loop
 loop-holds c = (refl, omega arith, seen-none _ _ _)
 
--- src/lib.rt:46:20
 mul-word : tie.Need-mul-word Inv-loop μ-loop
 mul-word c = search needs
 
--- src/lib.rt:46:20
 shared-slice-read-word : tie.Need-shared-slice-read-word Inv-loop μ-loop
 shared-slice-read-word c = search needs
 
--- src/lib.rt:47:22
 mul-number : tie.Need-mul-number Inv-loop μ-loop
 mul-number c = search needs
 
--- src/lib.rt:47:22
 shared-slice-read-number : tie.Need-shared-slice-read-number Inv-loop μ-loop
 shared-slice-read-number c = search needs
 
--- src/lib.rt:48:13
 high-byte-requires : tie.Need-high-byte-requires Inv-loop μ-loop
 high-byte-requires c κs = search needs
 
--- src/lib.rt:49:13
 shown-for-requires : tie.Need-shown-for-requires Inv-loop μ-loop
 shown-for-requires c κs = search needs
 
--- src/lib.rt:50:13
 inside-requires : tie.Need-inside-requires Inv-loop μ-loop
 inside-requires c κs = search needs
 
--- src/lib.rt:51:22
 mul-seen : tie.Need-mul-seen Inv-loop μ-loop
 mul-seen c = search needs
 
--- src/lib.rt:51:22
 array-read-seen : tie.Need-array-read-seen Inv-loop μ-loop
 array-read-seen c = search needs
 
--- src/lib.rt:51:22
 add-seen : tie.Need-add-seen Inv-loop μ-loop
 add-seen c =
     let b = c .before .before .before .before .before .before in
     record { fits = omega (arith, c .inside .ensures .1, b .loop .inv .2 .few (c .before .before .high-byte .result)) }
 
--- src/lib.rt:51:9
 mul-seen-2 : tie.Need-mul-seen-2 Inv-loop μ-loop
 mul-seen-2 c = search needs
 
--- src/lib.rt:51:9
 array-write-seen : tie.Need-array-write-seen Inv-loop μ-loop
 array-write-seen c = search needs
 
--- src/lib.rt:45:9
 add-i : tie.Need-add-i Inv-loop μ-loop
 add-i c = search needs
 
--- src/lib.rt:45:5
 loop-less : tie.Need-loop-less Inv-loop μ-loop
 loop-less c = search needs
 
--- src/lib.rt:45:5
 loop-again : tie.Need-loop-again Inv-loop μ-loop
 loop-again c =
     let b = c .before .before .before .before .before .before in
@@ -93,7 +72,6 @@ loop-again c =
           (b .loop .inv .2) (omega arith) (omega arith) (h .ensures .0) (h .ensures .1) (c .before .shown-for .ensures) (c .inside .ensures .0),
     )
 
--- src/lib.rt:40:1
 returns : tie.Need-returns Inv-loop μ-loop
 returns c =
     let b = c .before in

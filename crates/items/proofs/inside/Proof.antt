@@ -3,14 +3,10 @@ use mathlib.Core.Path.{refl}
 use native.Mathlib.Omega.{arith}
 use Rattle.items.proofs.inside.Statement.{statement}
 use Rattle.items.proofs.inside.Tie as tie
-use Rattle.items.proofs.inside.Reads as reads
-use Rattle.items.proofs.inside.Lts as lts
 
--- src/lib.rt:16:9
 returns : tie.Need-returns
 returns c = rw (c .if1 .taken) (refl, omega arith)
 
--- src/lib.rt:12:1
 returns-2 : tie.Need-returns-2
 returns-2 c = rw (c .if1 .left) (refl, omega arith)
 

@@ -1,6 +1,6 @@
 -- `items::number` meets its contract, by the sum over the places before the next one. Assumes nothing.
-use mathlib.Core.Path.{_≡_, refl, sym, _∙_, ap}
-use Prim.Native.Nat.{ℕ, _+_, _-_, _*_, _≤_}
+use mathlib.Core.Path.{_≡_, refl, _∙_, ap}
+use Prim.Native.Nat.{ℕ, _-_, _*_, _≤_}
 use native.Mathlib.Numerals.{add-one}
 use native.Mathlib.Omega.{arith}
 use borrow.Author.Needs.{needs}
@@ -8,9 +8,6 @@ use Rattle.rules.specs.Below.{sumBelow}
 use Rattle.items.specs.Items.{numberAt, itemNumber}
 use Rattle.items.proofs.number.Statement.{statement}
 use Rattle.items.proofs.number.Tie as tie
-use Rattle.items.proofs.number.Reads as reads
-use Rattle.items.proofs.number.Lts as lts
-use Rattle.items.proofs.number_at.Reads as number-at-reads
 
 abbrev Inv-loop : tie.InvT-loop
 Inv-loop count seen sum₀ k₀ sum k = (k ≤ 64) × (sum ≡ sumBelow k (numberAt count seen)) × (sum ≤ 65535 * k)
@@ -18,34 +15,27 @@ Inv-loop count seen sum₀ k₀ sum k = (k ≤ 64) × (sum ≡ sumBelow k (numbe
 abbrev μ-loop : tie.MeasureT-loop
 μ-loop count seen sum₀ k₀ sum k = 64 - k
 
--- src/lib.rt:72:5
 loop-holds : tie.Need-loop-holds Inv-loop μ-loop
 loop-holds c = (omega arith, refl, omega arith)
 
--- src/lib.rt:73:13
 number-at-requires : tie.Need-number-at-requires Inv-loop μ-loop
 number-at-requires c κs = search needs
 
--- src/lib.rt:74:9
 add-sum : tie.Need-add-sum Inv-loop μ-loop
 add-sum c = search needs
 
--- src/lib.rt:75:9
 add-k : tie.Need-add-k Inv-loop μ-loop
 add-k c = search needs
 
--- src/lib.rt:72:5
 loop-less : tie.Need-loop-less Inv-loop μ-loop
 loop-less c = search needs
 
--- src/lib.rt:72:5
 loop-again : tie.Need-loop-again Inv-loop μ-loop
 loop-again c =
     let b = c .before .before in
     let h = c .number-at .ensures in
     (omega arith, rw (add-one (b .loop .k), b .loop .inv .1, h .0), omega (arith, b .loop .inv .2, h .1))
 
--- src/lib.rt:67:1
 returns : tie.Need-returns Inv-loop μ-loop
 unfolding itemNumber
 returns c =

@@ -3,30 +3,22 @@ use borrow.Author.Needs.{needs}
 use borrow.Author.Tests.{lt-ltb, le-ltb}
 use Rattle.items.proofs.shown_for.Statement.{statement}
 use Rattle.items.proofs.shown_for.Tie as tie
-use Rattle.items.proofs.shown_for.Reads as reads
-use Rattle.items.proofs.shown_for.Lts as lts
 
--- src/lib.rt:27:16
 mul-result : tie.Need-mul-result
 mul-result c = search needs
 
--- src/lib.rt:27:16
 array-read-result : tie.Need-array-read-result
 array-read-result c = search needs
 
--- src/lib.rt:27:9
 returns : tie.Need-returns
 returns c = rw (lt-ltb _ _ (c .if1 .taken))
 
--- src/lib.rt:29:5
 mul-result-2 : tie.Need-mul-result-2
 mul-result-2 c = search needs
 
--- src/lib.rt:29:5
 array-read-result-2 : tie.Need-array-read-result-2
 array-read-result-2 c = search needs
 
--- src/lib.rt:22:1
 returns-2 : tie.Need-returns-2
 returns-2 c = rw (le-ltb _ _ (c .if1 .left))
 

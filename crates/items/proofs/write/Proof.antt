@@ -1,19 +1,16 @@
 -- `items::write` meets its contract, by the words of the places before the next one. Assumes nothing.
-use mathlib.Core.Path.{_≡_, refl, sym, _∙_, ap}
-use Prim.Native.Nat.{ℕ, _+_, _-_, _*_, _≤_}
+use mathlib.Core.Path.{_≡_}
+use Prim.Native.Nat.{_+_, _-_, _*_, _≤_}
 use native.Mathlib.Numerals.{add-one}
 use native.Mathlib.Omega.{arith}
 use borrow.Author.Needs.{needs}
 use lib.ListN.{length, length-take, length-drop}
 use Rattle.recording.specs.Layout.{joinBelow}
-use Rattle.items.specs.Items.{wordsAt, allWords}
+use Rattle.items.specs.Items.{wordsAt}
 use Rattle.items.specs.Wrote.{Wrote}
 use Rattle.items.proofs.Writing.{none-wrote, more-wrote, wrote-length, below-all, all-places}
 use Rattle.items.proofs.write.Statement.{statement}
 use Rattle.items.proofs.write.Tie as tie
-use Rattle.items.proofs.write.Reads as reads
-use Rattle.items.proofs.write.Lts as lts
-use Rattle.items.proofs.write_at.Reads as write-at-reads
 
 abbrev Inv-loop : tie.InvT-loop
 Inv-loop out₀ count words owns shown seen at₀ k₀ out at k = (k ≤ 64) × Wrote (joinBelow k (wordsAt count shown words owns)) out₀ out at
@@ -21,7 +18,6 @@ Inv-loop out₀ count words owns shown seen at₀ k₀ out at k = (k ≤ 64) × 
 abbrev μ-loop : tie.MeasureT-loop
 μ-loop out₀ count words owns shown seen at₀ k₀ out at k = 64 - k
 
--- src/lib.rt:174:5
 loop-holds : tie.Need-loop-holds Inv-loop μ-loop
 loop-holds c = (omega arith, none-wrote _)
 
@@ -39,40 +35,32 @@ room c =
     let w = b .loop .inv .1 in
     (omega (arith, h, w .number, s .pre .2), wrote-length w (omega (arith, h, w .number, s .pre .2)))
 
--- src/lib.rt:175:26
 sub-write-at : tie.Need-sub-write-at Inv-loop μ-loop
 sub-write-at c = let h = room c in omega (arith, h .0, h .1)
 
--- src/lib.rt:175:26
 part-write-at-start : tie.Need-part-write-at-start Inv-loop μ-loop
 part-write-at-start c = let h = room c in omega (arith, h .0, h .1)
 
--- src/lib.rt:175:26
 part-write-at-end : tie.Need-part-write-at-end Inv-loop μ-loop
 part-write-at-end c = search needs
 
--- src/lib.rt:175:13
 write-at-requires : tie.Need-write-at-requires Inv-loop μ-loop
 write-at-requires c κs =
     let h = room (c .before) in
     let p = c .before .before .before .before .before .before .pre in
     (c .before .loop-test .taken, p .0, p .1, simp (length-take, length-drop) (omega (arith, h .0, h .1)))
 
--- src/lib.rt:176:9
 add-at : tie.Need-add-at Inv-loop μ-loop
 add-at c =
     let h = room (c .before .before .before .before) in
     record { fits = omega (arith, h .0, c .before .before .write-at .ensures .number) }
 
--- src/lib.rt:177:9
 add-k : tie.Need-add-k Inv-loop μ-loop
 add-k c = search needs
 
--- src/lib.rt:174:5
 loop-less : tie.Need-loop-less Inv-loop μ-loop
 loop-less c = search needs
 
--- src/lib.rt:174:5
 loop-again : tie.Need-loop-again Inv-loop μ-loop
 loop-again c =
     let b = c .before .before .before .before .before in
@@ -80,7 +68,6 @@ loop-again c =
     let w = c .before .before .write-at .ensures in
     (omega arith, rw (add-one (b .loop .k)) (more-wrote _ _ _ _ _ _ _ (b .loop .inv .1) (omega (arith, h .0, w .number)) w))
 
--- src/lib.rt:156:1
 returns : tie.Need-returns Inv-loop μ-loop
 returns c =
     let b = c .before in
@@ -88,7 +75,6 @@ returns c =
     let e = all-places (a .count) (a .shown) (a .words .now) (a .owns .now) (b .loop .k) (omega arith) in
     rw (← e) (b .loop .inv .1)
 
--- src/lib.rt:156:1
 same-length : tie.Need-same-length Inv-loop μ-loop
 same-length c = let w = returns c in wrote-length w (omega (arith, w .number, c .before .before .before .before .before .pre .2))
 

@@ -1,7 +1,6 @@
 -- `items::write_at` meets its contract. Assumes nothing.
-use mathlib.Core.Path.{_≡_, refl, sym, _∙_, ap}
+use mathlib.Core.Path.{_≡_, sym, _∙_}
 use Prim.Native.Nat.{_+_}
-use native.Mathlib.Omega.{arith}
 use lib.ListN.{drop, getD}
 use Rattle.recording.specs.Records.{sentWords}
 use Rattle.items.specs.Items.{wordsAt}
@@ -9,16 +8,10 @@ use Rattle.items.proofs.Writing.{none-wrote, no-items, the-items}
 use borrow.Author.Needs.{needs}
 use Rattle.items.proofs.write_at.Statement.{statement}
 use Rattle.items.proofs.write_at.Tie as tie
-use Rattle.items.proofs.write_at.Reads as reads
-use Rattle.items.proofs.write_at.Lts as lts
-use Rattle.items.proofs.number_at.Reads as number-at-reads
-use Rattle.items.proofs.write_channel.Reads as write-channel-reads
 
--- src/lib.rt:149:8
 number-at-requires : tie.Need-number-at-requires
 number-at-requires c κs = search needs
 
--- src/lib.rt:150:9
 returns : tie.Need-returns
 returns c =
     let b = c .before .before .before .before .before in
@@ -27,15 +20,12 @@ returns c =
     (sym (c .before .number-at .ensures .0) ∙ c .if1 .taken) in
     rw e (none-wrote (a .out .now))
 
--- src/lib.rt:152:52
 add-write-channel : tie.Need-add-write-channel
 add-write-channel c = search needs
 
--- src/lib.rt:152:47
 mul-write-channel : tie.Need-mul-write-channel
 mul-write-channel c = search needs
 
--- src/lib.rt:152:47
 element-copy-out-write-channel : tie.Need-element-copy-out-write-channel
 element-copy-out-write-channel c = search needs
 
@@ -50,17 +40,14 @@ behind c =
     the-items (a .count) (a .seen .now) (a .shown) (a .words .now) (a .owns .now) (b .pre .2) (a .k) (b .pre .0)
     (λ e. c .if1 .left (c .before .number-at .ensures .0 ∙ e))
 
--- src/lib.rt:152:5
 write-channel-requires : tie.Need-write-channel-requires
 write-channel-requires c κs =
     let p = c .before .before .before .before .before .before .before .pre in
     (p .0, p .1, rw (← behind (c .before .before)) (p .3))
 
--- src/lib.rt:132:1
 same-length : tie.Need-same-length
 same-length c = search needs
 
--- src/lib.rt:132:1
 returns-2 : tie.Need-returns-2
 returns-2 c = rw (behind (c .before .before .before .before .before)) (c .before .before .write-channel .ensures)
 

@@ -1,6 +1,6 @@
 -- `items::write_channel` meets its contract, by the words written and those still to come. Assumes nothing.
-use mathlib.Core.Path.{_≡_, refl, sym, _∙_, ap}
-use Prim.Native.Nat.{ℕ, _+_, _-_, _*_, _≤_}
+use mathlib.Core.Path.{_≡_, refl}
+use Prim.Native.Nat.{_+_, _-_, _≤_}
 use native.Mathlib.Omega.{arith}
 use borrow.Author.Needs.{needs}
 use mathlib.Core.List.{[], _∷_}
@@ -10,11 +10,6 @@ use Rattle.recording.specs.Records.{sentWords}
 use Rattle.items.proofs.Writing.{Going, going-first, going-skip, going-length, going-room, going-word, going-done, elsewhere, outside, here}
 use Rattle.items.proofs.write_channel.Statement.{statement}
 use Rattle.items.proofs.write_channel.Tie as tie
-use Rattle.items.proofs.write_channel.Reads as reads
-use Rattle.items.proofs.write_channel.Lts as lts
-use Rattle.items.proofs.high_byte.Reads as high-byte-reads
-use Rattle.items.proofs.inside.Reads as inside-reads
-use Rattle.writer.proofs.write_word.Reads as write-word-reads
 
 abbrev Inv-loop : tie.InvT-loop
 Inv-loop out₀ words owns k skip shown left₀ at₀ i₀ i-end out left at i =
@@ -24,31 +19,24 @@ Inv-loop out₀ words owns k skip shown left₀ at₀ i₀ i-end out left at i =
 abbrev μ-loop : tie.MeasureT-loop
 μ-loop out₀ words owns k skip shown left₀ at₀ i₀ i-end out left at i = i-end - i
 
--- src/lib.rt:113:5
 loop-holds : tie.Need-loop-holds Inv-loop μ-loop
 loop-holds c = (refl, omega arith, going-first _ _ _)
 
--- src/lib.rt:114:20
 mul-word : tie.Need-mul-word Inv-loop μ-loop
 mul-word c = search needs
 
--- src/lib.rt:114:20
 shared-slice-read-word : tie.Need-shared-slice-read-word Inv-loop μ-loop
 shared-slice-read-word c = search needs
 
--- src/lib.rt:115:12
 high-byte-requires : tie.Need-high-byte-requires Inv-loop μ-loop
 high-byte-requires c κs = search needs
 
--- src/lib.rt:116:13
 add-i : tie.Need-add-i Inv-loop μ-loop
 add-i c = search needs
 
--- src/lib.rt:113:5
 loop-less : tie.Need-loop-less Inv-loop μ-loop
 loop-less c = search needs
 
--- src/lib.rt:113:5
 loop-again : tie.Need-loop-again Inv-loop μ-loop
 loop-again c =
     let b = c .before .before .before .before in
@@ -56,35 +44,27 @@ loop-again c =
     let e = elsewhere (a .t4) (a .words .now) (a .owns .now) (a .k) (b .loop .i) (omega arith) (omega arith) _ (c .before .high-byte .ensures .0) (c .if1 .taken) in
     (refl, omega arith, rw (← e) (b .loop .inv .2))
 
--- src/lib.rt:118:19
 mul-inside : tie.Need-mul-inside Inv-loop μ-loop
 mul-inside c = search needs
 
--- src/lib.rt:118:19
 shared-slice-read-inside : tie.Need-shared-slice-read-inside Inv-loop μ-loop
 shared-slice-read-inside c = search needs
 
--- src/lib.rt:118:28
 mul-inside-2 : tie.Need-mul-inside-2 Inv-loop μ-loop
 mul-inside-2 c = search needs
 
--- src/lib.rt:118:28
 array-read-inside : tie.Need-array-read-inside Inv-loop μ-loop
 array-read-inside c = search needs
 
--- src/lib.rt:118:12
 inside-requires : tie.Need-inside-requires Inv-loop μ-loop
 inside-requires c κs = search needs
 
--- src/lib.rt:119:13
 add-i-2 : tie.Need-add-i-2 Inv-loop μ-loop
 add-i-2 c = search needs
 
--- src/lib.rt:113:5
 loop-less-2 : tie.Need-loop-less-2 Inv-loop μ-loop
 loop-less-2 c = search needs
 
--- src/lib.rt:113:5
 loop-again-2 : tie.Need-loop-again-2 Inv-loop μ-loop
 loop-again-2 c =
     let b = c .before .before .before .before .before .before .before in
@@ -107,19 +87,15 @@ ahead c =
     (h .ensures .0) (c .before .before .before .if1 .left) (c .before .inside .ensures .0) (c .if2 .left) in
     rw (← e) (b .loop .inv .2)
 
--- src/lib.rt:122:13
 sub-left : tie.Need-sub-left Inv-loop μ-loop
 sub-left c = search needs
 
--- src/lib.rt:123:13
 add-i-3 : tie.Need-add-i-3 Inv-loop μ-loop
 add-i-3 c = search needs
 
--- src/lib.rt:113:5
 loop-less-3 : tie.Need-loop-less-3 Inv-loop μ-loop
 loop-less-3 c = search needs
 
--- src/lib.rt:113:5
 loop-again-3 : tie.Need-loop-again-3 Inv-loop μ-loop
 loop-again-3 c =
     let b = c .before .before .before .before .before .before .before .before in
@@ -130,45 +106,35 @@ room : (c : tie.Else3 Inv-loop μ-loop)
     → (c .before .before .before .before .before .before .before .before .loop .at + 2 ≤ length (c .before .before .before .before .before .before .before .before .before .before .before .before .args .out .now)) × (length (c .before .before .before .before .before .before .before .before .loop .out) ≡ length (c .before .before .before .before .before .before .before .before .before .before .before .before .args .out .now))
 room c = (going-room (ahead (c .before)) (c .if3 .left) (c .before .before .before .before .before .before .before .before .before .before .before .before .pre .2), going-length (c .before .before .before .before .before .before .before .before .loop .inv .2) (c .before .before .before .before .before .before .before .before .before .before .before .before .pre .2))
 
--- src/lib.rt:125:28
 sub-write-word : tie.Need-sub-write-word Inv-loop μ-loop
 sub-write-word c = let h = room c in omega (arith, h .0, h .1)
 
--- src/lib.rt:125:28
 part-write-word-start : tie.Need-part-write-word-start Inv-loop μ-loop
 part-write-word-start c = let h = room c in omega (arith, h .0, h .1)
 
--- src/lib.rt:125:28
 part-write-word-end : tie.Need-part-write-word-end Inv-loop μ-loop
 part-write-word-end c = search needs
 
--- src/lib.rt:125:9
 write-word-requires : tie.Need-write-word-requires Inv-loop μ-loop
 write-word-requires c κs = let h = room (c .before) in simp (length-take, length-drop) (omega (arith, h .0, h .1))
 
--- src/lib.rt:126:9
 add-at : tie.Need-add-at Inv-loop μ-loop
 add-at c = let h = room (c .before .before .before .before) in record { fits = omega (arith, h .0) }
 
--- src/lib.rt:113:9
 add-i-4 : tie.Need-add-i-4 Inv-loop μ-loop
 add-i-4 c = search needs
 
--- src/lib.rt:113:5
 loop-less-4 : tie.Need-loop-less-4 Inv-loop μ-loop
 loop-less-4 c = search needs
 
--- src/lib.rt:113:5
 loop-again-4 : tie.Need-loop-again-4 Inv-loop μ-loop
 loop-again-4 c =
     let s = c .before .before .before .before in
     (refl, omega arith, going-word (ahead (s .before)) (s .if3 .left) (c .before .before .before .before .before .before .before .before .before .before .before .before .before .before .before .before .pre .2) _ (c .before .before .write-word .ensures))
 
--- src/lib.rt:95:1
 same-length : tie.Need-same-length Inv-loop μ-loop
 same-length c = going-length (c .before .loop .inv .2) (c .before .before .before .before .before .pre .2)
 
--- src/lib.rt:95:1
 returns : tie.Need-returns Inv-loop μ-loop
 returns c =
     let b = c .before in

@@ -1,5 +1,5 @@
 -- `recorder::no_requests` meets its contract, by the places before the next one. Assumes nothing.
-use mathlib.Core.Path.{_≡_, refl, sym, _∙_, ap}
+use mathlib.Core.Path.{_≡_, refl, _∙_, ap}
 use mathlib.Core.Bool.{Bool, not, _||_}
 use Prim.Native.Nat.{ℕ, _-_, _≤_}
 use native.Mathlib.Numerals.{add-one}
@@ -13,10 +13,6 @@ use Rattle.run.specs.State.{isChannel}
 use Rattle.recording.specs.Call.{noRequests}
 use Rattle.recorder.proofs.no_requests.Statement.{statement}
 use Rattle.recorder.proofs.no_requests.Tie as tie
-use Rattle.recorder.proofs.no_requests.Reads as reads
-use Rattle.recorder.proofs.no_requests.Lts as lts
-use Rattle.recorder.proofs.is_waiting.Reads as is-waiting-reads
-use Rattle.scan.proofs.is_channel.Reads as is-channel-reads
 
 abbrev freeAt : ℕ → Channels → ℕ → Bool
 freeAt count l k = not (isChannel count k) || not (waits (itemsOn l k))
@@ -27,33 +23,26 @@ Inv-loop count items lens free₀ k₀ free k = (k ≤ 64) × (free ≡ allBelow
 abbrev μ-loop : tie.MeasureT-loop
 μ-loop count items lens free₀ k₀ free k = 64 - k
 
--- src/lib.rt:139:5
 loop-holds : tie.Need-loop-holds Inv-loop μ-loop
 loop-holds c = (omega arith, refl)
 
--- src/lib.rt:140:13
 is-channel-requires : tie.Need-is-channel-requires Inv-loop μ-loop
 is-channel-requires c κs = search needs
 
--- src/lib.rt:141:13
 is-waiting-requires : tie.Need-is-waiting-requires Inv-loop μ-loop
 is-waiting-requires c κs = search needs
 
--- src/lib.rt:143:9
 add-k : tie.Need-add-k Inv-loop μ-loop
 add-k c = search needs
 
--- src/lib.rt:139:5
 loop-less : tie.Need-loop-less Inv-loop μ-loop
 loop-less c = search needs
 
--- src/lib.rt:139:5
 loop-again : tie.Need-loop-again Inv-loop μ-loop
 loop-again c =
     let b = c .before .before .before in
     (omega arith, rw (add-one (b .loop .k), b .loop .inv .1, c .before .is-channel .ensures, c .is-waiting .ensures))
 
--- src/lib.rt:134:1
 returns : tie.Need-returns Inv-loop μ-loop
 unfolding noRequests
 returns c =

@@ -1,7 +1,7 @@
 -- `recorder::record` meets its contract: questions 1, 12, 13 and 14, and the bytes. Assumes nothing.
 use mathlib.Core.Path.{_≡_, refl, sym, _∙_, ap}
-use mathlib.Core.Bool.{true, false}
-use Prim.Native.Nat.{ℕ, _-_}
+use mathlib.Core.Bool.{true}
+use Prim.Native.Nat.{_-_}
 use native.Mathlib.Omega.{arith}
 use borrow.Author.Tests.{not-true, not-false}
 use lib.ListN.{length, take, length-map, length-take}
@@ -15,23 +15,13 @@ use Rattle.recorder.proofs.Recorded.{numbersAt, fitting, numbers-record
 use borrow.Author.Needs.{needs}
 use Rattle.recorder.proofs.record.Statement.{statement}
 use Rattle.recorder.proofs.record.Tie as tie
-use Rattle.recorder.proofs.record.Reads as reads
-use Rattle.recorder.proofs.record.Lts as lts
-use Rattle.scan.proofs.has_started.Reads as has-started-reads
-use Rattle.recorder.proofs.no_requests.Reads as no-requests-reads
-use Rattle.recorder.proofs.refused.Reads as refused-reads
-use Rattle.recorder.proofs.write_sized.Reads as write-sized-reads
-use Rattle.writer.proofs.is_replayed.Reads as is-replayed-reads
 
--- src/lib.rt:247:9
 is-replayed-requires : tie.Need-is-replayed-requires
 is-replayed-requires c κs = search needs
 
--- src/lib.rt:248:9
 refused-requires : tie.Need-refused-requires
 refused-requires c κs = search needs
 
--- src/lib.rt:248:9
 returns : tie.Need-returns
 unfolding recordCall
 returns c = rw (sym (c .before .before .is-replayed .ensures .0) ∙ not-true _ (c .before .if1 .taken)) (c .refused .ensures, refl)
@@ -54,15 +44,12 @@ module _ (c : tie.Else1) where
       let z : c .before .before .before .before .args .run .records - 0 ≡ c .before .before .before .before .args .run .records = omega arith in
       rw z
 
--- src/lib.rt:251:9
 has-started-requires : tie.Need-has-started-requires
 has-started-requires c κs = run-sound _ (whole (c .before)) (asked (c .before)) .most
 
--- src/lib.rt:252:9
 refused-requires-2 : tie.Need-refused-requires-2
 refused-requires-2 c κs = search needs
 
--- src/lib.rt:252:9
 returns-2 : tie.Need-returns-2
 unfolding recordCall
 returns-2 c =
@@ -75,47 +62,37 @@ started c = sym (c .before .has-started .ensures) ∙ not-false _ (c .if2 .left)
 free : (c : tie.Else3) → noRequests (c .before .before .before .before .before .before .before .before .before .before .before .before .before .before .args .run .count) (c .before .before .before .before .before .before .before .before .before .before .before .before .before .before .args .run .channels) ≡ true
 free c = sym (c .before .no-requests .ensures) ∙ not-false _ (c .if3 .left)
 
--- src/lib.rt:257:9
 no-requests-requires : tie.Need-no-requests-requires
 no-requests-requires c κs = search needs
 
--- src/lib.rt:258:9
 refused-requires-3 : tie.Need-refused-requires-3
 refused-requires-3 c κs = search needs
 
--- src/lib.rt:258:9
 returns-3 : tie.Need-returns-3
 unfolding recordCall
 returns-3 c =
     rw (asked (c .before .before .before .before .before .before .before .before .before .before .before), started (c .before .before .before .before .before .before .before .before), sym (c .before .before .no-requests .ensures) ∙ not-true _ (c .before .if3 .taken)) (c .refused3 .ensures, refl)
 
--- src/lib.rt:262:13
 cast-n : tie.Need-cast-n
 cast-n c = search needs
 
--- src/lib.rt:263:49
 sub-write-sized : tie.Need-sub-write-sized
 sub-write-sized c = search needs
 
--- src/lib.rt:263:49
 part-write-sized-start : tie.Need-part-write-sized-start
 part-write-sized-start c = search needs
 
--- src/lib.rt:263:49
 part-write-sized-end : tie.Need-part-write-sized-end
 part-write-sized-end c =
     let b = c .before .before .before .before .before .before .before .before .before .before .before .before .before .before .before in
     omega (arith, run-sound _ (whole b) (asked b) .records, whole b .journal)
 
--- src/lib.rt:263:65
 sub-write-sized-2 : tie.Need-sub-write-sized-2
 sub-write-sized-2 c = search needs
 
--- src/lib.rt:263:65
 part-write-sized-start-2 : tie.Need-part-write-sized-start-2
 part-write-sized-start-2 c = search needs
 
--- src/lib.rt:263:65
 part-write-sized-end-2 : tie.Need-part-write-sized-end-2
 part-write-sized-end-2 c =
     let b = c .before .before .before .before .before .before .before .before .before .before .before .before .before .before .before .before .before in
@@ -123,17 +100,14 @@ part-write-sized-end-2 c =
     let n = length-take (r .records - 0) (b .before .is-replayed .last .1 .0) in
     omega (arith, n, ap length (numbers b), numbers-records r (whole b) (asked b))
 
--- src/lib.rt:263:5
 write-sized-requires : tie.Need-write-sized-requires
 write-sized-requires c κs =
     let b = c .before .before .before .before .before .before .before .before .before .before .before .before .before .before .before .before .before .before in
     rw (words b, numbers b) (fitting _ (whole b) (asked b))
 
--- src/lib.rt:241:1
 same-length : tie.Need-same-length
 same-length c = search needs
 
--- src/lib.rt:241:1
 returns-4 : tie.Need-returns-4
 returns-4 c =
     let b = c .before .before .before .before .before .before .before .before .before .before .before .before .before .before .before .before .before .before .before .before .before in

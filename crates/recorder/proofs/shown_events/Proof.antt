@@ -1,10 +1,10 @@
 -- `recorder::shown_events` meets its contract, by the zones before the next one. Assumes nothing.
-use mathlib.Core.Path.{_≡_, refl, sym, _∙_, ap}
+use mathlib.Core.Path.{_≡_, refl, _∙_}
 use mathlib.Core.List.{List}
-use Prim.Native.Nat.{ℕ, _+_, _-_, _≤_}
+use Prim.Native.Nat.{ℕ, _-_, _≤_}
 use native.Mathlib.Omega.{arith}
 use borrow.Author.Needs.{needs}
-use lib.ListN.{length, getD, replicate, length-set}
+use lib.ListN.{length, getD, length-set}
 use Rattle.rules.specs.Cut.{eventsOf}
 use Rattle.rules.specs.declared.Local.{Local}
 use Rattle.run.specs.State.{zoneAt}
@@ -12,9 +12,6 @@ use Rattle.recorder.specs.Words.{shownEvents}
 use Rattle.recorder.proofs.Shown.{part, part-none, part-more, part-all}
 use Rattle.recorder.proofs.shown_events.Statement.{statement}
 use Rattle.recorder.proofs.shown_events.Tie as tie
-use Rattle.recorder.proofs.shown_events.Reads as reads
-use Rattle.recorder.proofs.shown_events.Lts as lts
-use Rattle.recorder.proofs.shown_of.Reads as shown-of-reads
 
 abbrev eventsAt : List Local → ℕ → ℕ
 eventsAt zones j = eventsOf (zoneAt zones j .checkpoint)
@@ -26,39 +23,30 @@ Inv-loop count zones shown₀ i₀ shown i =
 abbrev μ-loop : tie.MeasureT-loop
 μ-loop count zones shown₀ i₀ shown i = count - i
 
--- src/lib.rt:57:5
 loop-holds : tie.Need-loop-holds Inv-loop μ-loop
 loop-holds c = (omega arith, refl, part-none (eventsAt (c .args .t2)) 8)
 
--- src/lib.rt:58:17
 mul-z : tie.Need-mul-z Inv-loop μ-loop
 mul-z c = search needs
 
--- src/lib.rt:58:17
 array-copy-out-z : tie.Need-array-copy-out-z Inv-loop μ-loop
 array-copy-out-z c = search needs
 
--- src/lib.rt:60:20
 shown-of-requires : tie.Need-shown-of-requires Inv-loop μ-loop
 shown-of-requires c κs = search needs
 
--- src/lib.rt:60:9
 mul-shown : tie.Need-mul-shown Inv-loop μ-loop
 mul-shown c = search needs
 
--- src/lib.rt:60:9
 array-write-shown : tie.Need-array-write-shown Inv-loop μ-loop
 array-write-shown c = search needs
 
--- src/lib.rt:61:9
 add-i : tie.Need-add-i Inv-loop μ-loop
 add-i c = search needs
 
--- src/lib.rt:57:5
 loop-less : tie.Need-loop-less Inv-loop μ-loop
 loop-less c = search needs
 
--- src/lib.rt:57:5
 loop-again : tie.Need-loop-again Inv-loop μ-loop
 loop-again c =
     let b = c .before .before .before in
@@ -68,7 +56,6 @@ loop-again c =
       part-more (eventsAt (a .t2)) (b .loop .shown) (b .loop .i) (c .shown-of .result) (omega (arith, b .loop .inv .1)) (c .shown-of .ensures) (b .loop .inv .2),
     )
 
--- src/lib.rt:51:1
 returns : tie.Need-returns Inv-loop μ-loop
 unfolding shownEvents
 returns c =

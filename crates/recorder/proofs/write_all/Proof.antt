@@ -1,7 +1,7 @@
 -- `recorder::write_all` meets its contract: each writer is lent what the one before it left. Assumes nothing.
-use mathlib.Core.Path.{_≡_, sym, _∙_}
+use mathlib.Core.Path.{_≡_}
 use mathlib.Core.List.{List, _∷_}
-use Prim.Native.Nat.{ℕ, _+_, _*_, _-_, _≤_}
+use Prim.Native.Nat.{ℕ, _+_, _*_, _-_}
 use native.Mathlib.Omega.{arith}
 use lib.ListN.{length, length-take, length-drop}
 use borrow.Rule.Slice.PartMut.{putMid}
@@ -13,34 +13,22 @@ use Rattle.recorder.proofs.Shown.{zones-length}
 use borrow.Author.Needs.{needs}
 use Rattle.recorder.proofs.write_all.Statement.{statement}
 use Rattle.recorder.proofs.write_all.Tie as tie
-use Rattle.recorder.proofs.write_all.Reads as reads
-use Rattle.recorder.proofs.write_all.Lts as lts
-use Rattle.items.proofs.write.Reads as write-reads
-use Rattle.recorder.proofs.write_zones.Reads as write-zones-reads
-use Rattle.writer.proofs.header.Reads as header-reads
-use Rattle.writer.proofs.write_word.Reads as write-word-reads
 
--- src/lib.rt:175:9
 header-requires : tie.Need-header-requires
 header-requires c κs = search needs
 
--- src/lib.rt:176:5
 write-word-requires : tie.Need-write-word-requires
 write-word-requires c κs = search needs
 
--- src/lib.rt:177:25
 sub-write-zones : tie.Need-sub-write-zones
 sub-write-zones c = search needs
 
--- src/lib.rt:177:25
 part-write-zones-start : tie.Need-part-write-zones-start
 part-write-zones-start c = search needs
 
--- src/lib.rt:177:25
 part-write-zones-end : tie.Need-part-write-zones-end
 part-write-zones-end c = search needs
 
--- src/lib.rt:177:9
 write-zones-requires : tie.Need-write-zones-requires
 write-zones-requires c κs = search needs
 
@@ -66,23 +54,18 @@ module _ (c : tie.After-slice-known3) where
   same : length filled ≡ length (c .before .before .before .before .before .before .before .before .before .before .before .before .args .out .now)
   same = let h = size in wrote-length front (omega (arith, h, c .before .before .before .before .before .before .before .before .before .before .before .before .pre .7))
 
--- src/lib.rt:178:14
 add-at : tie.Need-add-at
 add-at c = let h = size c in record { fits = omega (arith, h, c .before .before .before .before .before .before .before .before .before .before .before .before .pre .1) }
 
--- src/lib.rt:179:26
 sub-write : tie.Need-sub-write
 sub-write c = let h = size c in let m = same c in omega (arith, h, m, c .before .before .before .before .before .before .before .before .before .before .before .before .pre .7)
 
--- src/lib.rt:179:26
 part-write-start : tie.Need-part-write-start
 part-write-start c = let h = size c in let m = same c in omega (arith, h, m, c .before .before .before .before .before .before .before .before .before .before .before .before .pre .7)
 
--- src/lib.rt:179:26
 part-write-end : tie.Need-part-write-end
 part-write-end c = search needs
 
--- src/lib.rt:179:9
 write-requires : tie.Need-write-requires
 write-requires c κs =
     let h = size (c .before) in
@@ -90,18 +73,15 @@ write-requires c κs =
     let p = c .before .before .before .before .before .before .before .before .before .before .before .before .before .pre in
     (p .3, p .4, simp (length-take, length-drop) (omega (arith, h, m, p .6, p .7)))
 
--- src/lib.rt:180:5
 add-result : tie.Need-add-result
 add-result c =
     let h = size (c .before .before .before .before) in
     let p = c .before .before .before .before .before .before .before .before .before .before .before .before .before .before .before .before .pre in
     record { fits = omega (arith, h, c .before .before .write .ensures .number, p .1, p .5, p .6) }
 
--- src/lib.rt:153:1
 same-length : tie.Need-same-length
 same-length c = search needs
 
--- src/lib.rt:153:1
 returns : tie.Need-returns
 returns c =
     let h = size (c .before .before .before .before) in

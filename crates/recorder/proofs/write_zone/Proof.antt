@@ -1,48 +1,33 @@
 -- `recorder::write_zone` meets its contract: the second word is written behind the first. Assumes nothing.
-use native.Mathlib.Omega.{arith}
 use Rattle.items.proofs.Writing.{more-wrote, word-wrote}
 use borrow.Author.Needs.{needs}
 use Rattle.recorder.proofs.write_zone.Statement.{statement}
 use Rattle.recorder.proofs.write_zone.Tie as tie
-use Rattle.recorder.proofs.write_zone.Reads as reads
-use Rattle.recorder.proofs.write_zone.Lts as lts
-use Rattle.recorder.proofs.stock_of.Reads as stock-of-reads
-use Rattle.recorder.proofs.zone_word.Reads as zone-word-reads
-use Rattle.writer.proofs.write_word.Reads as write-word-reads
 
--- src/lib.rt:71:9
 zone-word-requires : tie.Need-zone-word-requires
 zone-word-requires c κs = search needs
 
--- src/lib.rt:72:9
 stock-of-requires : tie.Need-stock-of-requires
 stock-of-requires c κs = search needs
 
--- src/lib.rt:73:5
 write-word-requires : tie.Need-write-word-requires
 write-word-requires c κs = search needs
 
--- src/lib.rt:74:24
 sub-write-word : tie.Need-sub-write-word
 sub-write-word c = search needs
 
--- src/lib.rt:74:24
 part-write-word-start : tie.Need-part-write-word-start
 part-write-word-start c = search needs
 
--- src/lib.rt:74:24
 part-write-word-end : tie.Need-part-write-word-end
 part-write-word-end c = search needs
 
--- src/lib.rt:74:5
 write-word-requires-2 : tie.Need-write-word-requires-2
 write-word-requires-2 c κs = search needs
 
--- src/lib.rt:67:1
 same-length : tie.Need-same-length
 same-length c = search needs
 
--- src/lib.rt:67:1
 returns : tie.Need-returns
 returns c =
     let v = c .before .before .write-word2 in

@@ -1,7 +1,6 @@
 -- `recorder::write_zones` meets its contract, by the words of the zones before the next one. Assumes nothing.
-use mathlib.Core.Path.{_≡_, sym, _∙_, ap}
-use mathlib.Core.List.{List}
-use Prim.Native.Nat.{ℕ, _+_, _-_, _*_, _≤_}
+use mathlib.Core.Path.{_≡_}
+use Prim.Native.Nat.{_+_, _-_, _*_, _≤_}
 use native.Mathlib.Numerals.{add-one}
 use native.Mathlib.Omega.{arith}
 use borrow.Author.Needs.{needs}
@@ -14,9 +13,6 @@ use Rattle.recorder.specs.Words.{markWords, zonesWords}
 use Rattle.recorder.proofs.Shown.{zones-size}
 use Rattle.recorder.proofs.write_zones.Statement.{statement}
 use Rattle.recorder.proofs.write_zones.Tie as tie
-use Rattle.recorder.proofs.write_zones.Reads as reads
-use Rattle.recorder.proofs.write_zones.Lts as lts
-use Rattle.recorder.proofs.write_zone.Reads as write-zone-reads
 
 abbrev Inv-loop : tie.InvT-loop
 Inv-loop out₀ count zones opening at₀ i₀ out at i =
@@ -25,7 +21,6 @@ Inv-loop out₀ count zones opening at₀ i₀ out at i =
 abbrev μ-loop : tie.MeasureT-loop
 μ-loop out₀ count zones opening at₀ i₀ out at i = count - i
 
--- src/lib.rt:88:5
 loop-holds : tie.Need-loop-holds Inv-loop μ-loop
 loop-holds c = (omega arith, none-wrote _)
 
@@ -43,55 +38,43 @@ room c =
     let h : b .loop .at + 4 ≤ length (a .out .now) = omega (arith, s .pre .1, c .loop-test .taken) in
     (e, h, wrote-length w (omega arith))
 
--- src/lib.rt:89:17
 mul-z : tie.Need-mul-z Inv-loop μ-loop
 mul-z c = search needs
 
--- src/lib.rt:89:17
 array-copy-out-z : tie.Need-array-copy-out-z Inv-loop μ-loop
 array-copy-out-z c = search needs
 
--- src/lib.rt:91:28
 sub-write-zone : tie.Need-sub-write-zone Inv-loop μ-loop
 sub-write-zone c = let h = room (c .before) in omega (arith, h .1, h .2)
 
--- src/lib.rt:91:28
 part-write-zone-start : tie.Need-part-write-zone-start Inv-loop μ-loop
 part-write-zone-start c = let h = room (c .before) in omega (arith, h .1, h .2)
 
--- src/lib.rt:91:28
 part-write-zone-end : tie.Need-part-write-zone-end Inv-loop μ-loop
 part-write-zone-end c = search needs
 
--- src/lib.rt:91:50
 mul-write-zone : tie.Need-mul-write-zone Inv-loop μ-loop
 mul-write-zone c = search needs
 
--- src/lib.rt:91:50
 array-read-write-zone : tie.Need-array-read-write-zone Inv-loop μ-loop
 array-read-write-zone c = search needs
 
--- src/lib.rt:91:13
 write-zone-requires : tie.Need-write-zone-requires Inv-loop μ-loop
 write-zone-requires c κs =
     let h = room (c .before .before) in
     (c .before .before .before .before .before .pre .2 _ (c .before .before .loop-test .taken), simp (length-take, length-drop) (omega (arith, h .1, h .2)))
 
--- src/lib.rt:92:9
 add-at : tie.Need-add-at Inv-loop μ-loop
 add-at c =
     let h = room (c .before .before .before .before .before) in
     record { fits = omega (arith, h .1, c .before .before .write-zone .ensures .number) }
 
--- src/lib.rt:93:9
 add-i : tie.Need-add-i Inv-loop μ-loop
 add-i c = search needs
 
--- src/lib.rt:88:5
 loop-less : tie.Need-loop-less Inv-loop μ-loop
 loop-less c = search needs
 
--- src/lib.rt:88:5
 loop-again : tie.Need-loop-again Inv-loop μ-loop
 loop-again c =
     let b = c .before .before .before .before .before .before in
@@ -99,7 +82,6 @@ loop-again c =
     let w = c .before .before .write-zone .ensures in
     (omega arith, rw (add-one (b .loop .i)) (more-wrote _ _ _ _ _ _ _ (b .loop .inv .1) (omega (arith, h .1, w .number)) w))
 
--- src/lib.rt:79:1
 same-length : tie.Need-same-length Inv-loop μ-loop
 same-length c =
     let b = c .before in
@@ -107,7 +89,6 @@ same-length c =
     let w = b .loop .inv .1 in
     wrote-length w (omega (arith, w .number, zones-size (a .t3) (a .t4) (b .loop .i), c .before .before .before .pre .1))
 
--- src/lib.rt:79:1
 returns : tie.Need-returns Inv-loop μ-loop
 unfolding zonesWords
 returns c =

@@ -3,34 +3,25 @@ use native.Mathlib.Omega.{arith}
 use borrow.Author.Needs.{needs}
 use Rattle.recorder.proofs.zone_word.Statement.{statement}
 use Rattle.recorder.proofs.zone_word.Tie as tie
-use Rattle.recorder.proofs.zone_word.Reads as reads
-use Rattle.recorder.proofs.zone_word.Lts as lts
 
--- src/lib.rt:44:29
 enum-told : tie.Need-enum-told
 enum-told c = search needs
 
--- src/lib.rt:45:35
 enum-told-2 : tie.Need-enum-told-2
 enum-told-2 c = search needs
 
--- src/lib.rt:46:31
 enum-known-mark : tie.Need-enum-known-mark
 enum-known-mark c = search needs
 
--- src/lib.rt:46:37
 add-result : tie.Need-add-result
 add-result c = let h = rw (c .before .before .mark .given .1) at (c .before .before .before .before .pre) in record { fits = omega (arith, h) }
 
--- src/lib.rt:39:1
 returns : tie.Need-returns
 returns c = rw (c .enum-told .given .1)
 
--- src/lib.rt:39:1
 returns-2 : tie.Need-returns-2
 returns-2 c = rw (c .enum-told2 .given .1)
 
--- src/lib.rt:39:1
 returns-3 : tie.Need-returns-3
 returns-3 c = rw (c .before .before .mark .given .1)
 

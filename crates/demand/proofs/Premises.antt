@@ -1,0 +1,82 @@
+-- The premises of demand 3 are met: every list of calls can be made from every opening, every recording call has an answer, and case A is
+-- an instance whose recording is complete. Assumes nothing.
+use mathlib.Core.Path.{_≡_, refl}
+use mathlib.Core.List.{List, [], _∷_}
+use Prim.Native.Nat.{ℕ}
+use native.Mathlib.Omega.{arith}
+use base.Fml.{Lft}
+use denote.Ref.{RefT}
+use lib.ListN.{replicate}
+use Rattle.rules.specs.Cut.{Complete, Cut, run}
+use Rattle.rules.specs.Questions.{isCount, isOn}
+use Rattle.rules.specs.Sets.{has, members}
+use Rattle.rules.specs.Site.{Call, openS}
+use Rattle.local.specs.Asked.{requestedBy, startedBy}
+use Rattle.channel.specs.Words.{itemOf, messageWord}
+use Rattle.channel.specs.Channels.{pushed, movedDown, popped, allFree, requestedAll}
+use Rattle.run.specs.Calls.{isPair, openCall, sendCall, receiveCall, startCall}
+use Rattle.run.specs.Claims.{AllTyped}
+use Rattle.run.specs.Lists.{SiteCall, Send, Receive, Start, answer, after, acceptedCalls}
+use Rattle.run.specs.Model.{stocksOf}
+use Rattle.run.specs.State.{
+  isChannel,
+  zoneSound,
+  zonesSound,
+  channelSound,
+  channelsSound,
+  stocks,
+  carsOnChannels,
+  partsSound,
+  hasStarted,
+  openedRun,
+}
+use Rattle.run.specs.declared.Run.{Run}
+use Rattle.journal.specs.Format.{journalBytes, decode}
+use Rattle.journal.specs.Reading.{readCall}
+use Rattle.journal.specs.Writing.{sameLocal, sameChannel, sameZones, sameChannels, replaysTo, isReplayed}
+use Rattle.recording.specs.Call.{noRequests, recordCall}
+use Rattle.recording.specs.Layout.{itemWords, recordingBytes}
+use Rattle.recording.specs.Shown.{shownIn}
+use Rattle.demand.specs.Demand.{Demand}
+use Rattle.demand.specs.Made.{Opened, Answered, Made, done, then, Recorded}
+use Rattle.demand.proofs.Recorded.{true-demand}
+
+answered : (c : SiteCall) (r : Run) → Answered c r (answer c r)
+answered (Send from to cars) r = refl
+answered (Receive from to) r = refl
+answered (Start zone) r = refl
+
+pub opens : (κ : Lft) (count : ℕ) (v : RefT (List ℕ)) → Opened κ count v (openCall count (v .now))
+opens κ count v = refl
+
+pub makes : (cs : List SiteCall) (r : Run) → AllTyped cs → Made r cs (acceptedCalls cs r) (after cs r)
+makes [] r t = done
+makes (c ∷ cs) r t = then (answer c r) (t .0) (answered c r) (makes cs (answer c r .run) (t .1))
+
+pub records : (κ : Lft) (r : Run) (lent bytes : RefT (List ℕ)) → bytes .now ≡ recordCall r (lent .now) .bytes
+    → Recorded κ r lent (recordCall r (lent .now) .answer) bytes
+records κ r lent bytes e = (refl, e)
+
+-- Case A: stocks 10, 20, 30 and its nine calls, with a refused one between.
+abbrev pub stocksA : List ℕ
+stocksA = 10 ∷ 20 ∷ 30 ∷ []
+
+abbrev pub callsA : List SiteCall
+callsA =
+    Send 1 2 4 ∷ Receive 1 2 ∷ Send 3 2 5 ∷ Send 1 3 2 ∷ Start 2 ∷ Start 1 ∷ Send 2 3 7 ∷ Receive 2 3 ∷ Receive 1 3 ∷ Receive 2 1 ∷ []
+
+typedA : AllTyped callsA
+typedA = (omega arith, (tt, (omega arith, (omega arith, (tt, (tt, (omega arith, (tt, (tt, (tt, tt))))))))))
+
+openedA : openCall 3 stocksA .refusal ≡ 0
+unfolding openCall isCount
+openedA = refl
+
+answeredA : recordCall (after callsA (openCall 3 stocksA .run)) (replicate 16 0) .answer .refusal ≡ 0
+unfolding has members isCount isOn requestedBy startedBy itemOf messageWord pushed movedDown popped allFree requestedAll isChannel zoneSound zonesSound channelSound channelsSound stocks carsOnChannels partsSound hasStarted openedRun isPair openCall sendCall receiveCall startCall journalBytes decode readCall sameLocal sameChannel sameZones sameChannels replaysTo isReplayed noRequests recordCall itemWords recordingBytes
+answeredA = refl
+
+-- So demand 3 says of case A that its recording, as its bytes show it, is a consistent cut.
+pub case-a : Cut (stocksOf stocksA) (acceptedCalls callsA (openCall 3 stocksA .run))
+    (shownIn (recordCall (after callsA (openCall 3 stocksA .run)) (replicate 16 0) .bytes))
+case-a = true-demand 3 stocksA openedA callsA typedA (replicate 16 0) .cut answeredA

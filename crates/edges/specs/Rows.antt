@@ -1,0 +1,167 @@
+-- The rows of the table of edges: what is asked, and the whole answer that is expected. The runs of a row are written out, by none of the
+-- definitions that are asked.
+use mathlib.Core.Bool.{true, false, cond}
+use mathlib.Core.List.{List, [], _∷_, _++_, map}
+use Prim.Native.Nat.{ℕ, zero, suc, _+_, _-_, _*_, _^_}
+use Prim.Native.String.{String}
+use lib.Dec.{eqb}
+use lib.ListN.{length, take, replicate}
+use Rattle.rules.specs.Site.{Item, message, request}
+use Rattle.rules.specs.declared.Checkpoint.{Checkpoint}
+use Rattle.rules.specs.declared.Checkpoint.the-variants.{None, Mutable, Permanent}
+use Rattle.rules.specs.declared.Local.{Local}
+use Rattle.run.specs.Calls.{openCall}
+use Rattle.run.specs.Lists.{SiteCall, answer, after}
+use Rattle.run.specs.declared.Run.{Run}
+use Rattle.run.specs.declared.Answer.{Answer}
+use Rattle.journal.specs.Reading.{readCall}
+use Rattle.journal.specs.Writing.{Output, writeCall}
+use Rattle.journal.specs.declared.Reading.{Reading}
+use Rattle.recording.specs.Call.{recordCall}
+use Rattle.text.specs.Codes.{codes}
+use Rattle.zone.proofs.Examples as zones
+use Rattle.report.specs.Report.{reportText}
+
+-- What is asked: an answer of the zone part; an opening; a call on a run, its recording or its journal, each after some calls on it; the
+-- reading of a journal; the program's text of a journal. A row holds this and not its answer, so that the check computes each run only once.
+pub data Ask : Type 0 where
+  Part : zones.Reply → Ask
+  Open : (count : ℕ) (stocks : List ℕ) → Ask
+  Call : Run → List SiteCall → SiteCall → Ask
+  Record : Run → List SiteCall → (lent : List ℕ) → Ask
+  Write : Run → List SiteCall → (lent : List ℕ) → Ask
+  Read : (journal : List ℕ) → Ask
+  Print : (journal : List ℕ) → Ask
+
+pub data Reply : Type 0 where
+  part : zones.Reply → Reply
+  site : Answer → Reply
+  output : Output → Reply
+  reading : Reading → Reply
+  text : List ℕ → Reply
+
+-- The answer, by the definitions that the contracts cite.
+abbrev pub reply : Ask → Reply
+reply (Part r) = part r
+reply (Open count stocks) = site (openCall count stocks)
+reply (Call r cs c) = site (answer c (after cs r))
+reply (Record r cs lent) = output (recordCall (after cs r) lent)
+reply (Write r cs lent) = output (writeCall (after cs r) lent)
+reply (Read journal) = reading (readCall journal)
+reply (Print journal) = text (reportText journal)
+
+pub record Row : Type 0 where
+  pub ask : Ask
+  pub expected : Reply
+
+abbrev pub answers : List Row → List Reply
+answers [] = []
+answers (r ∷ rs) = reply (r .ask) ∷ answers rs
+
+abbrev pub expectations : List Row → List Reply
+expectations [] = []
+expectations (r ∷ rs) = r .expected ∷ expectations rs
+
+-- A row of the zone part's own table.
+abbrev pub partRow : zones.Row → Row
+partRow r = record { ask = Part (r .answer); expected = part (r .expected) }
+
+-- An opening, with the refusal's number and the run.
+abbrev pub opens : ℕ → List ℕ → ℕ → Run → Row
+opens count stocks n r = record { ask = Open count stocks; expected = site (record { refusal = n; run = r }) }
+
+-- A call on a run after some calls, with the refusal's number and the run.
+abbrev pub gives : Run → List SiteCall → SiteCall → ℕ → Run → Row
+gives r cs c n r′ = record { ask = Call r cs c; expected = site (record { refusal = n; run = r′ }) }
+
+-- A writer's answer: the refusal's number, the number of bytes written, and all the lent bytes after it.
+abbrev pub written : ℕ → ℕ → List ℕ → Reply
+written n number bytes = output (record { answer = record { refusal = n; written = number }; bytes = bytes })
+
+-- A recording of a run after some calls, and a journal of it.
+abbrev pub records : Run → List SiteCall → List ℕ → ℕ → ℕ → List ℕ → Row
+records r cs lent n number bytes = record { ask = Record r cs lent; expected = written n number bytes }
+
+abbrev pub writes : Run → List SiteCall → List ℕ → ℕ → ℕ → List ℕ → Row
+writes r cs lent n number bytes = record { ask = Write r cs lent; expected = written n number bytes }
+
+-- A reading, with the refusal's number, the record's position and the run.
+abbrev pub reads : List ℕ → ℕ → ℕ → Run → Row
+reads journal n position r = record {
+  ask = Read journal;
+  expected = reading (record { refusal = n; position = position; run = r });
+}
+
+-- What the program prints of a journal.
+abbrev pub prints : List ℕ → String → Row
+prints journal line = record { ask = Print journal; expected = text (codes line) }
+
+-- A zone: its stock, dependency set, own events and checkpoint.
+abbrev pub zone : ℕ → ℕ → ℕ → Checkpoint → Local
+zone stock deps events mark = record { stock = stock; deps = deps; events = events; checkpoint = mark }
+
+-- The checkpoints, by the stock and the own events that they keep.
+abbrev pub mutable : ℕ → ℕ → Checkpoint
+mutable stock events = Mutable (record { stock = stock; events = events })
+
+abbrev pub permanent : ℕ → ℕ → Checkpoint
+permanent stock events = Permanent (record { stock = stock; events = events })
+
+-- The list n times.
+abbrev pub times : {A : Type 0} → ℕ → List A → List A
+times zero xs = []
+times (suc n) xs = xs ++ times n xs
+
+-- The channel from one zone to another, both by number, with its items.
+pub record Channel : Type 0 where
+  pub from : ℕ
+  pub to : ℕ
+  pub items : List Item
+
+abbrev pub channel : ℕ → ℕ → List Item → Channel
+channel from to items = record { from = from; to = to; items = items }
+
+-- The word that stands for an item.
+abbrev pub word : Item → ℕ
+word (message cars false) = cars
+word (message cars true) = 256 + cars
+word (request set) = 512 + set
+
+-- The words of the channel at place k; the one from zone a to zone b is at (a - 1) * 8 + (b - 1).
+abbrev pub wordsAt : List Channel → ℕ → List ℕ
+wordsAt [] k = []
+wordsAt (l ∷ ls) k = cond (eqb k ((l .from - 1) * 8 + (l .to - 1))) (map word (l .items)) (wordsAt ls k)
+
+-- n numbers: those of the list, then zeros.
+abbrev pub padded : ℕ → List ℕ → List ℕ
+padded n xs = take n (xs ++ replicate n 0)
+
+-- The 16 words of each of n channels from place k on, and the lengths of these channels.
+abbrev pub wordsFrom : ℕ → ℕ → List Channel → List ℕ
+wordsFrom k zero ls = []
+wordsFrom k (suc n) ls = padded 16 (wordsAt ls k) ++ wordsFrom (suc k) n ls
+
+abbrev pub lengthsFrom : ℕ → ℕ → List Channel → List ℕ
+lengthsFrom k zero ls = []
+lengthsFrom k (suc n) ls = length (wordsAt ls k) ∷ lengthsFrom (suc k) n ls
+
+-- n zones from index k on: those of the list, then what a run keeps for zones that the site does not have.
+abbrev pub zonesFrom : ℕ → ℕ → List Local → List Local
+zonesFrom k zero zs = []
+zonesFrom k (suc n) [] = zone 0 (2 ^ k) 0 None ∷ zonesFrom (suc k) n []
+zonesFrom k (suc n) (z ∷ zs) = z ∷ zonesFrom (suc k) n zs
+
+-- A run: its opening stocks, its zones, its channels that are not empty, and the words of its records.
+abbrev pub runWith : List ℕ → List Local → List Channel → List ℕ → Run
+runWith opening zones channels records = record {
+  count = length opening;
+  records = length records;
+  zones = zonesFrom 0 8 zones;
+  opening = padded 8 opening;
+  channels = record { items = wordsFrom 0 64 channels; lens = lengthsFrom 0 64 channels };
+  journal = padded 1000 records;
+}
+
+-- "a run of 2 zones with stock 0 and no records".
+abbrev pub nothing : Run
+nothing = runWith (0 ∷ 0 ∷ []) (zone 0 1 0 None ∷ zone 0 2 0 None ∷ []) [] []

@@ -1,0 +1,1 @@
+// The proved table of worked edges: document 01, "One run entire".
