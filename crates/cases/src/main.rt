@@ -1,0 +1,55 @@
+// Reads journals, each behind its length in 16 bits, high byte first, and prints the text of each: the stored journals and lines are those
+// of the second implementation.
+ghost use Prim.Native.Nat.{_≤_};
+ghost use mathlib.Core.Path.{_≡_};
+ghost use lib.ListN.{length};
+use libc::STDIN_FILENO;
+use libc::STDOUT_FILENO;
+
+fn joined(high: u8, low: u8) -> usize {
+    high as usize * 256 + low as usize
+}
+
+// The next n bytes of the input, at the front of the space; whether they were there.
+fn fill(space: &mut [u8], n: usize) -> bool
+    requires { ⌜ n ≤ length (now space) ⌝ }
+    ensures { λ r. ⌜ length (now (space .exit)) ≡ length (now (space .entry)) ⌝ }
+{
+    let m = io::read_full(STDIN_FILENO, &mut space[0..n]);
+    m == n
+}
+
+// One journal and its line; whether there was one. The longest stored journal has 3,045 bytes.
+fn one() -> bool {
+    let mut head = [0u8; 2];
+    if !fill(&mut head, 2) {
+        return false;
+    }
+    let n = joined(head[0], head[1]);
+    if 4096 < n {
+        return false;
+    }
+    let mut space = [0u8; 4096];
+    if !fill(&mut space, n) {
+        return false;
+    }
+    print(&space[0..n]);
+    true
+}
+
+// The line of one journal.
+fn print(journal: &[u8]) {
+    let mut out = [0u8; 6102];
+    let m = report::report(journal, &mut out);
+    io::write_all(STDOUT_FILENO, &out[..m]);
+}
+
+fn main() {
+    let mut left = 10000u16;
+    while left != 0 {
+        if !one() {
+            return;
+        }
+        left -= 1;
+    }
+}

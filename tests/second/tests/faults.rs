@@ -1,0 +1,443 @@
+//! The faults that a fitter would commit, each switched on in a small engine of this file.
+//!
+//! The checker of demand 3 has to find every one of them, and the engine without a fault has to
+//! agree with the site engine.
+
+use second::demand3::{check, compare, look, Account, Event, Finding, Lines, Seen};
+use second::random::{drive, stocks, Random};
+use second::site::{Call, Run};
+use std::collections::{BTreeMap, VecDeque};
+
+#[derive(Clone, Copy, Debug, PartialEq, Eq)]
+enum Fault {
+    None,
+    /// The stock at the request is recorded, although a provisional mark stood.
+    StockAtRequest,
+    /// The same, with the number of own events at the request beside it.
+    StockAndEventsAtRequest,
+    /// Every sender joins the heard set after a provisional mark.
+    HearsAfterMark,
+    /// The same, for hand-overs with marked bit 0 alone.
+    HearsUnmarkedAfterMark,
+    /// A marked hand-over is received first, and the mark is taken second.
+    MarksSecond,
+    /// Requests carry only the zone's own heard set.
+    OwnSetOnly,
+    /// The recording shows the present lines.
+    PresentLines,
+    /// The same, without hand-overs sent outside the sender's events.
+    PresentInsideLines,
+}
+
+/// A mark keeps whether it is firm, the stock and the number of own events.
+type Mark = Option<(bool, u32, u32)>;
+
+#[derive(Clone, Copy)]
+enum Item {
+    /// Cars, marked bit, and the count of the hand-over among its sender's events.
+    HandOver(u8, bool, u32),
+    Request(u8),
+}
+
+/// A hand-over that was sent, with its counts among the sender's and the receiver's events.
+#[derive(Clone, Copy)]
+struct Sent {
+    cars: u8,
+    sent: u32,
+    received: Option<u32>,
+}
+
+struct Fitter {
+    fault: Fault,
+    opening: Vec<u16>,
+    stock: Vec<u32>,
+    events: Vec<u32>,
+    heard: Vec<u8>,
+    mark: Vec<Mark>,
+    lines: Vec<Vec<VecDeque<Item>>>,
+    sent: Vec<Vec<Vec<Sent>>>,
+    records: usize,
+    /// What this engine did itself, for the reading of demand 3 that trusts it.
+    own: Account,
+}
+
+impl Fitter {
+    fn open(fault: Fault, opening: &[u16]) -> Fitter {
+        let zones = opening.len();
+        Fitter {
+            fault,
+            opening: opening.to_vec(),
+            stock: opening.iter().map(|&stock| u32::from(stock)).collect(),
+            events: vec![0; zones],
+            heard: (0..zones).map(|zone| 1 << zone).collect(),
+            mark: vec![None; zones],
+            lines: vec![vec![VecDeque::new(); zones]; zones],
+            sent: vec![vec![Vec::new(); zones]; zones],
+            records: 0,
+            own: Account {
+                events: Vec::new(),
+                starter: None,
+                marks: vec![None; zones],
+                complete: false,
+                by_rules: true,
+            },
+        }
+    }
+
+    fn zones(&self) -> usize {
+        self.opening.len()
+    }
+
+    fn on_site(&self, zone: u32) -> bool {
+        zone != 0 && zone as usize <= self.zones()
+    }
+
+    /// Makes a call and gives its number.
+    fn call(&mut self, call: Call) -> u32 {
+        let (from, to) = match call {
+            Call::HandOver { from, to, .. } | Call::Receipt { from, to } => (from, to),
+            Call::Start { zone } => (zone, 0),
+        };
+        let start = matches!(call, Call::Start { .. });
+        if !self.on_site(from) || !start && (!self.on_site(to) || from == to) {
+            return 5;
+        }
+        if self.records == 1_000 {
+            return 6;
+        }
+        let a = from as usize - 1;
+        let number = match call {
+            Call::HandOver { cars, .. } => self.hand_over(a, to as usize - 1, cars),
+            Call::Receipt { .. } => self.receipt(a, to as usize - 1),
+            Call::Start { .. } => self.start(a),
+        };
+        self.records += usize::from(number == 0);
+        number
+    }
+
+    fn hand_over(&mut self, a: usize, b: usize, cars: u8) -> u32 {
+        if self.stock[a] < u32::from(cars) {
+            return 7;
+        }
+        if self.lines[a][b].len() == 16 {
+            return 8;
+        }
+        self.stock[a] -= u32::from(cars);
+        self.events[a] += 1;
+        let count = self.events[a];
+        self.lines[a][b].push_back(Item::HandOver(cars, self.mark[a].is_some(), count));
+        self.sent[a][b].push(Sent {
+            cars,
+            sent: count,
+            received: None,
+        });
+        self.own.events.push(Event::Sent {
+            from: a,
+            to: b,
+            cars,
+            count,
+        });
+        0
+    }
+
+    fn receipt(&mut self, a: usize, b: usize) -> u32 {
+        match self.lines[a][b].front().copied() {
+            None => 9,
+            Some(Item::HandOver(cars, marked, _)) => {
+                self.lines[a][b].pop_front();
+                self.take(a, b, cars, marked);
+                0
+            }
+            Some(Item::Request(set)) => {
+                let number = self.request(b, set);
+                if number == 0 {
+                    self.lines[a][b].pop_front();
+                }
+                number
+            }
+        }
+    }
+
+    fn take(&mut self, a: usize, b: usize, cars: u8, marked: bool) {
+        let unmarked = self.mark[b].is_none();
+        if self.fault != Fault::MarksSecond && unmarked && marked {
+            self.mark[b] = Some((false, self.stock[b], self.events[b]));
+        }
+        let provisional = matches!(self.mark[b], Some((false, _, _)));
+        let hears = match self.fault {
+            Fault::HearsAfterMark => provisional,
+            Fault::HearsUnmarkedAfterMark => provisional && !marked,
+            _ => false,
+        };
+        if hears || unmarked && !marked {
+            self.heard[b] |= 1 << a;
+        }
+        self.stock[b] += u32::from(cars);
+        self.events[b] += 1;
+        if self.fault == Fault::MarksSecond && unmarked && marked {
+            self.mark[b] = Some((false, self.stock[b], self.events[b]));
+        }
+        if unmarked && marked {
+            self.own.marks[b] = Some(self.events[b] - 1);
+        }
+        let count = self.events[b];
+        let first = self.sent[a][b].iter_mut().find(|s| s.received.is_none());
+        first.expect("a hand-over on the line was sent").received = Some(count);
+        self.own.events.push(Event::Received {
+            from: a,
+            to: b,
+            count,
+        });
+    }
+
+    fn request(&mut self, b: usize, set: u8) -> u32 {
+        let mark = match self.mark[b] {
+            Some((true, _, _)) => return 0,
+            Some((false, stock, events)) => match self.fault {
+                Fault::StockAtRequest => (true, self.stock[b], events),
+                Fault::StockAndEventsAtRequest => (true, self.stock[b], self.events[b]),
+                _ => (true, stock, events),
+            },
+            None => (true, self.stock[b], self.events[b]),
+        };
+        let carried = match self.fault {
+            Fault::OwnSetOnly => self.heard[b],
+            _ => self.heard[b] | set,
+        };
+        let number = self.send_requests(b, self.heard[b] & !set, carried);
+        if number == 0 {
+            self.mark[b] = Some(mark);
+            let before = self.own.marks[b].unwrap_or(self.events[b]);
+            self.own.marks[b] = Some(before);
+        }
+        number
+    }
+
+    fn start(&mut self, a: usize) -> u32 {
+        if self
+            .mark
+            .iter()
+            .any(|mark| matches!(mark, Some((true, _, _))))
+        {
+            return 11;
+        }
+        let number = self.send_requests(a, self.heard[a], self.heard[a]);
+        if number == 0 {
+            self.mark[a] = Some((true, self.stock[a], self.events[a]));
+            self.own.marks[a] = Some(self.events[a]);
+            self.own.starter = Some((a, self.events[a]));
+        }
+        number
+    }
+
+    /// Sends a request to each zone of the set but itself, or answers 10.
+    fn send_requests(&mut self, a: usize, set: u8, carried: u8) -> u32 {
+        let to: Vec<usize> = (0..self.zones())
+            .filter(|&b| b != a && set & 1 << b != 0)
+            .collect();
+        if to.iter().any(|&b| self.lines[a][b].len() == 16) {
+            return 10;
+        }
+        for b in to {
+            self.lines[a][b].push_back(Item::Request(carried));
+        }
+        0
+    }
+
+    /// What is seen of this run from outside; the recording is written here too.
+    fn look(&mut self, calls: Vec<(Call, u32)>) -> Seen {
+        let zones = self.zones();
+        let mut seen = Seen {
+            opening: self.opening.clone(),
+            calls,
+            answer: 0,
+            bytes: Vec::new(),
+            stocks: self.stock.iter().map(|&stock| u64::from(stock)).collect(),
+            lines: self.present(|_, _| true),
+        };
+        let firm: Vec<bool> = self
+            .mark
+            .iter()
+            .map(|mark| matches!(mark, Some((true, _, _))))
+            .collect();
+        let requests = self
+            .lines
+            .iter()
+            .flatten()
+            .flatten()
+            .any(|item| matches!(item, Item::Request(_)));
+        self.own.complete = firm.contains(&true) && !requests;
+        if !self.own.complete {
+            seen.answer = if requests { 13 } else { 12 };
+            return seen;
+        }
+        let shown: Vec<(u32, u32)> = (0..zones)
+            .map(|zone| match self.mark[zone] {
+                Some((true, stock, events)) => (stock, events),
+                _ => (u32::from(self.opening[zone]), 0),
+            })
+            .collect();
+        let lines = match self.fault {
+            Fault::PresentLines => self.present(|_, _| true),
+            Fault::PresentInsideLines => self.present(|a, count| count <= shown[a].1),
+            _ => self.recorded(&shown),
+        };
+        let items: Vec<u16> = (0..zones)
+            .flat_map(|a| (0..zones).map(move |b| (a, b)))
+            .flat_map(|(a, b)| {
+                let word = (a << 11 | b << 8) as u16;
+                lines[a][b].iter().map(move |&cars| word | u16::from(cars))
+            })
+            .collect();
+        let mut words = vec![(1 << 13 | (zones - 1) << 10 | items.len()) as u16];
+        for zone in 0..zones {
+            words.push(u16::from(firm[zone]) << 15 | shown[zone].1 as u16);
+            words.push(shown[zone].0 as u16);
+        }
+        words.extend(items);
+        seen.bytes = words.iter().flat_map(|word| word.to_be_bytes()).collect();
+        seen
+    }
+
+    /// The present hand-overs that a test of sender and count lets through.
+    fn present(&self, keep: impl Fn(usize, u32) -> bool) -> Lines {
+        let mut lines: Lines = vec![vec![Vec::new(); self.zones()]; self.zones()];
+        for (a, row) in self.lines.iter().enumerate() {
+            for (b, line) in row.iter().enumerate() {
+                for item in line {
+                    if let Item::HandOver(cars, _, count) = *item {
+                        if keep(a, count) {
+                            lines[a][b].push(cars);
+                        }
+                    }
+                }
+            }
+        }
+        lines
+    }
+
+    /// The hand-overs sent inside the sender's events and not received inside the receiver's.
+    fn recorded(&self, shown: &[(u32, u32)]) -> Lines {
+        let mut lines: Lines = vec![vec![Vec::new(); self.zones()]; self.zones()];
+        for (a, row) in self.sent.iter().enumerate() {
+            for (b, line) in row.iter().enumerate() {
+                for item in line {
+                    let received = item.received.is_some_and(|count| count <= shown[b].1);
+                    if item.sent <= shown[a].1 && !received {
+                        lines[a][b].push(item.cars);
+                    }
+                }
+            }
+        }
+        lines
+    }
+}
+
+/// Drives an engine with a fault on random lists and hands over what is seen of each.
+fn each_run(fault: Fault, runs: usize, mut then: impl FnMut(Seen, &Account)) {
+    let mut random = Random::new(9);
+    for _ in 0..runs {
+        let zones = random.within(2, 6);
+        let opening = stocks(&mut random, zones);
+        let mut fitter = Fitter::open(fault, &opening);
+        let calls = drive(&mut random, zones, 80, &mut |call| fitter.call(call));
+        let seen = fitter.look(calls);
+        then(seen, &fitter.own);
+    }
+}
+
+/// Counts the findings of a fault over random lists, and the complete recordings.
+fn findings(fault: Fault) -> (BTreeMap<Finding, u32>, u32) {
+    let mut all = BTreeMap::new();
+    let mut complete = 0;
+    each_run(fault, 2_000, |seen, _| {
+        complete += u32::from(seen.answer == 0);
+        for finding in check(&seen) {
+            *all.entry(finding).or_insert(0) += 1;
+        }
+    });
+    println!("{fault:?}: {all:?} on {complete} complete recordings");
+    assert!(complete > 800);
+    (all, complete)
+}
+
+/// Every one of the findings must turn up, and often enough not to be luck.
+fn must_find(fault: Fault, wanted: &[Finding]) {
+    let (all, _) = findings(fault);
+    for finding in wanted {
+        assert!(all.get(finding).is_some_and(|&times| times >= 5));
+    }
+}
+
+#[test]
+fn without_a_fault_nothing_is_found_and_the_site_agrees() {
+    assert!(findings(Fault::None).0.is_empty());
+    each_run(Fault::None, 1_000, |seen, own| {
+        let zones = seen.opening.len() as u32;
+        let (_, mut run) = Run::open(zones, &seen.opening);
+        for &(call, number) in &seen.calls {
+            assert_eq!(run.call(call), number);
+        }
+        let site = look(&seen.opening, seen.calls.clone(), &run);
+        assert_eq!((site.answer, site.bytes), (seen.answer, seen.bytes.clone()));
+        assert_eq!(
+            (site.stocks, site.lines),
+            (seen.stocks.clone(), seen.lines.clone())
+        );
+        assert_eq!(compare(&seen, own), []);
+    });
+}
+
+#[test]
+fn the_stock_at_the_request_is_caught() {
+    must_find(Fault::StockAtRequest, &[Finding::RecordedStocks]);
+}
+
+#[test]
+fn the_stock_and_events_at_the_request_are_caught() {
+    // The park itself refuses some: a receipt is inside, its hand-over is outside.
+    let wanted = [Finding::Events, Finding::InsideStep, Finding::Zones];
+    must_find(Fault::StockAndEventsAtRequest, &wanted);
+}
+
+#[test]
+fn hearing_after_a_provisional_mark_is_caught() {
+    // A zone is recorded although no inside receipt calls for it, and the rules know of no such
+    // request.
+    for fault in [Fault::HearsAfterMark, Fault::HearsUnmarkedAfterMark] {
+        must_find(fault, &[Finding::Zones, Finding::Rules]);
+    }
+}
+
+#[test]
+fn marking_second_is_caught() {
+    let wanted = [Finding::Events, Finding::InsideStep, Finding::Zones];
+    must_find(Fault::MarksSecond, &wanted);
+}
+
+#[test]
+fn passing_on_only_the_own_set_is_caught_by_the_rules() {
+    must_find(Fault::OwnSetOnly, &[Finding::Rules]);
+}
+
+/// The own set alone makes zones ask again where a request is already under way. Firm zones
+/// drop it, so the recording shows the same cut, only later. Demand 3 sees this fault because
+/// the rules, not the run, say what a receipt takes: an accepted receipt of the second request
+/// takes nothing, or the hand-over behind it. An account that trusted the run would find nothing.
+#[test]
+fn passing_on_only_the_own_set_passes_an_account_that_trusts_the_run() {
+    each_run(Fault::OwnSetOnly, 2_000, |seen, own| {
+        assert_eq!(compare(&seen, own), []);
+    });
+}
+
+#[test]
+fn present_lines_are_caught() {
+    for fault in [Fault::PresentLines, Fault::PresentInsideLines] {
+        let (all, _) = findings(fault);
+        assert_eq!(
+            all.keys().copied().collect::<Vec<_>>(),
+            [Finding::RecordedLines]
+        );
+    }
+}

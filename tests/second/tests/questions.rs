@@ -1,0 +1,618 @@
+//! The questions in order: question 1 on any state, each refusal, and the zone part.
+
+use second::journal;
+use second::print::MOST_BYTES;
+use second::random::{drive, stocks, Random};
+use second::recording;
+use second::site::{Call, Item, Run};
+use second::zone::{Body, Mark, Requests, Saved, Zone, NO_REQUESTS};
+
+const KEPT: Saved = Saved {
+    stock: 5,
+    events: 0,
+};
+
+fn hand_over(cars: u8) -> Item {
+    Item::HandOver {
+        cars,
+        marked: false,
+    }
+}
+
+fn opened(stocks: &[u16]) -> Run {
+    let (refusal, run) = Run::open(stocks.len() as u32, stocks);
+    assert_eq!(refusal, 0);
+    run
+}
+
+/// Every call answers 1, and no call changes the run or a lent byte.
+fn all_answer_1(run: &Run) {
+    let mut after = run.clone();
+    assert_eq!(after.hand_over(9, 9, 255), 1);
+    assert_eq!(after.receipt(0, 1), 1);
+    assert_eq!(after.start(0), 1);
+    assert!(after == *run);
+    let mut lent = [7; 3_000];
+    assert_eq!(recording::write(run, &mut lent), (1, 0));
+    assert_eq!(journal::write(run, &mut lent), (1, 0));
+    assert_eq!(lent, [7; 3_000]);
+}
+
+/// The state passes the short form, but recording and journal writing answer 1.
+fn only_the_fuller_form_fails(run: &Run) {
+    assert!(run.sound());
+    let mut lent = [7; 3_000];
+    assert_eq!(recording::write(run, &mut lent), (1, 0));
+    assert_eq!(journal::write(run, &mut lent), (1, 0));
+    assert_eq!(lent, [7; 3_000]);
+    assert_eq!(recording::write(run, &mut []), (1, 0));
+    assert_eq!(journal::write(run, &mut []), (1, 0));
+}
+
+#[test]
+fn question_1_refuses_every_unsound_state() {
+    let sound = opened(&[10, 20, 30]);
+    for count in [0, 1, 9, 16, u32::MAX] {
+        let mut run = sound.clone();
+        run.count = count;
+        all_answer_1(&run);
+    }
+    let mut run = sound.clone();
+    run.lines[2][0].extend([hand_over(0); 16]);
+    assert!(run.sound());
+    run.lines[2][0].push_back(hand_over(0));
+    all_answer_1(&run);
+
+    let mut run = sound.clone();
+    run.records = vec![0; 1_000];
+    assert!(run.sound());
+    run.records.push(0);
+    all_answer_1(&run);
+
+    let mut run = sound.clone();
+    run.records = vec![0; 4];
+    run.zones[2].events = 4;
+    assert!(run.sound());
+    run.zones[2].events = 5;
+    all_answer_1(&run);
+
+    let mut run = sound.clone();
+    run.zones[1].heard = 0b111;
+    assert!(run.sound());
+    run.zones[1].heard = 0b1010;
+    all_answer_1(&run);
+
+    let mut run = sound.clone();
+    run.lines[0][2].push_back(Item::Request { set: 0b111 });
+    assert!(run.sound());
+    run.lines[0][2].push_back(Item::Request { set: 0b1000 });
+    all_answer_1(&run);
+
+    let mut run = sound.clone();
+    run.zones[0].stock = 65_535 - 50;
+    assert!(run.sound());
+    run.lines[1][0].push_back(hand_over(1));
+    all_answer_1(&run);
+    for stock in [65_536, u32::MAX] {
+        let mut run = sound.clone();
+        run.zones[0].stock = stock;
+        all_answer_1(&run);
+        run.zones[1].stock = stock;
+        all_answer_1(&run);
+    }
+}
+
+#[test]
+fn question_1_does_not_look_at_unused_storage_or_marks() {
+    let mut run = opened(&[10, 20, 30]);
+    run.zones[3].stock = u32::MAX;
+    run.zones[4].heard = 255;
+    run.zones[5].events = 9;
+    run.lines[0][0].extend([hand_over(255); 40]);
+    run.lines[0][3].push_back(Item::Request { set: 255 });
+    run.lines[7][1].extend([hand_over(255); 17]);
+    run.opening[6] = 65_535;
+    assert!(run.sound() && run.true_run());
+    assert_eq!(run.hand_over(1, 2, 1), 0);
+    let mut lent = [0; 10];
+    assert_eq!(journal::write(&run, &mut lent), (0, 10));
+
+    run.zones[0].mark = Mark::Firm(Saved {
+        stock: u32::MAX,
+        events: u32::MAX,
+    });
+    run.zones[1].heard = 0;
+    only_the_fuller_form_fails(&run);
+    assert_eq!(run.start(2), 11);
+    assert_eq!(run.receipt(1, 2), 0);
+}
+
+#[test]
+fn the_fuller_form_wants_the_state_of_the_journal() {
+    let mut run = opened(&[10, 20, 30]);
+    run.hand_over(1, 2, 4);
+    run.receipt(1, 2);
+    run.start(2);
+    run.receipt(2, 1);
+    assert!(run.true_run());
+
+    let mut other = run.clone();
+    other.zones[0].stock += 1;
+    only_the_fuller_form_fails(&other);
+    let mut other = run.clone();
+    other.zones[1].heard |= 4;
+    only_the_fuller_form_fails(&other);
+    let mut other = run.clone();
+    other.zones[2].mark = Mark::Provisional(KEPT);
+    only_the_fuller_form_fails(&other);
+    let mut other = run.clone();
+    other.zones[2].events += 1;
+    only_the_fuller_form_fails(&other);
+    let mut other = run.clone();
+    other.lines[2][1].push_back(hand_over(0));
+    only_the_fuller_form_fails(&other);
+    let mut other = run.clone();
+    other.opening[0] += 1;
+    only_the_fuller_form_fails(&other);
+    let mut other = run.clone();
+    other.opening[2] = 65_535;
+    only_the_fuller_form_fails(&other);
+    let mut other = run.clone();
+    other.records.pop();
+    only_the_fuller_form_fails(&other);
+    let mut other = run.clone();
+    other.records.push(journal::encode(Call::Start { zone: 1 }));
+    only_the_fuller_form_fails(&other);
+    // A word that is not well formed does not replay, though its bare call would be accepted.
+    for (record, word) in [(1, 0x4101), (2, 0x8900), (2, 0x8801), (0, 0xC104)] {
+        let mut other = run.clone();
+        other.records[record] = word;
+        only_the_fuller_form_fails(&other);
+    }
+}
+
+#[test]
+fn writers_ask_for_enough_bytes_last() {
+    let mut run = opened(&[1, 1]);
+    let mut lent = [9; 20];
+    assert_eq!(recording::write(&run, &mut []), (12, 0));
+    assert_eq!(journal::write(&run, &mut lent[..5]), (14, 0));
+    run.hand_over(2, 1, 1);
+    run.receipt(2, 1);
+    run.start(1);
+    assert_eq!(recording::write(&run, &mut []), (13, 0));
+    run.receipt(1, 2);
+    assert_eq!(recording::write(&run, &mut lent[..9]), (14, 0));
+    assert_eq!(journal::write(&run, &mut lent[..13]), (14, 0));
+    assert_eq!(lent, [9; 20]);
+    assert_eq!(recording::write(&run, &mut lent), (0, 10));
+    assert_eq!(
+        lent[..10],
+        [0x24, 0, 0x80, 1, 0, 2, 0x80, 1, 0, 0],
+        "both zones are firm"
+    );
+    assert_eq!(lent[10..], [9; 10]);
+    assert_eq!(journal::write(&run, &mut lent), (0, 14));
+    assert_eq!(lent[14..], [9; 6]);
+}
+
+#[test]
+fn named_zones_come_second() {
+    let mut run = opened(&[1, 1, 1]);
+    for (from, to) in [(0, 1), (1, 0), (4, 1), (1, 4), (2, 2), (u32::MAX, 1)] {
+        assert_eq!(run.hand_over(from, to, 255), 5);
+        assert_eq!(run.receipt(from, to), 5);
+    }
+    for zone in [0, 4, 9, u32::MAX] {
+        assert_eq!(run.start(zone), 5);
+    }
+    assert!(run.records.is_empty());
+    assert_eq!(run.hand_over(1, 2, 2), 7);
+    assert_eq!(run.receipt(1, 2), 9);
+}
+
+#[test]
+fn full_lines_refuse_requests() {
+    // A start asks 11 before 10.
+    let mut run = opened(&[9, 9, 9]);
+    run.hand_over(2, 1, 1);
+    run.receipt(2, 1);
+    for _ in 0..16 {
+        run.hand_over(1, 2, 0);
+    }
+    let before = run.clone();
+    assert_eq!(run.start(1), 10);
+    assert!(run.same(&before));
+    let mut other = run.clone();
+    assert_eq!(other.start(3), 0);
+    assert_eq!(other.start(1), 11);
+    // A receipt that must pass a request on needs the place too, and keeps the item if refused.
+    let mut run = opened(&[9, 9, 9]);
+    run.hand_over(3, 2, 0);
+    run.receipt(3, 2);
+    run.hand_over(2, 1, 0);
+    run.receipt(2, 1);
+    for _ in 0..16 {
+        run.hand_over(2, 3, 0);
+    }
+    assert_eq!(run.start(1), 0);
+    let before = run.clone();
+    assert_eq!(run.receipt(1, 2), 10);
+    assert!(run.same(&before));
+    assert_eq!(run.receipt(2, 3), 0);
+    assert_eq!(run.receipt(1, 2), 0);
+    assert_eq!(
+        run.lines[1][2].back(),
+        Some(&Item::Request { set: 0b111 }),
+        "the request carries the union"
+    );
+}
+
+#[test]
+fn a_firm_zone_drops_a_request_on_full_lines() {
+    let mut run = opened(&[9, 9]);
+    run.hand_over(2, 1, 1);
+    run.receipt(2, 1);
+    run.start(1);
+    run.lines[1][0].push_back(Item::Request { set: 0 });
+    run.lines[0][1].extend([hand_over(0); 15]);
+    assert_eq!(run.receipt(2, 1), 0);
+    assert_eq!(run.lines[0][1].len(), 16);
+}
+
+#[test]
+fn a_site_start_of_a_provisional_zone_in_an_untrue_state() {
+    let mut run = opened(&[10, 20]);
+    run.zones[0].mark = Mark::Provisional(KEPT);
+    let zone = Zone {
+        number: 1,
+        count: 2,
+        body: run.zones[0],
+    };
+    assert_eq!(zone.start().1.refusal, 11);
+    assert_eq!(run.start(1), 0);
+    let saved = Saved {
+        stock: 10,
+        events: 0,
+    };
+    assert_eq!(run.zones[0].mark, Mark::Firm(saved));
+}
+
+#[test]
+fn reading_asks_in_order() {
+    let read = |bytes: &[u8]| {
+        let reading = journal::read(bytes);
+        if reading.refusal != 0 {
+            assert!(reading.run.same(&Run::refused()));
+        }
+        (reading.refusal, reading.position)
+    };
+    assert_eq!(read(&[]), (15, 0));
+    assert_eq!(read(&[0x24]), (15, 0));
+    for edition in [0, 2, 3, 4, 5, 6, 7] {
+        // A wrong edition comes before zones 0 and the number 1,023.
+        assert_eq!(read(&[edition << 5 | 3, 255]), (15, 0));
+    }
+    assert_eq!(read(&[0x20, 0, 0, 0]), (16, 0));
+    assert_eq!(read(&[0x27, 0xE9]), (16, 0));
+    assert_eq!(read(&[0x27, 0xE8]), (17, 0));
+    assert_eq!(read(&[0x24, 0]), (17, 0));
+    assert_eq!(read(&[0x24, 0, 0, 0, 0]), (17, 0));
+    assert_eq!(read(&[0x24, 0, 0, 0, 0, 0]), (0, 0));
+    assert_eq!(read(&[0x24, 0, 0, 0, 0, 0, 0]), (17, 0));
+    assert_eq!(read(&[0x24, 1, 255, 255, 0, 1, 0xC0, 0]), (4, 0));
+    let journal = |words: &[u16]| {
+        let mut all = vec![0x2400 + words.len() as u16, 5, 5];
+        all.extend(words);
+        journal::bytes_of(&all)
+    };
+    assert_eq!(read(&journal(&[0x0105])), (0, 0));
+    assert_eq!(read(&journal(&[0x0106])), (19, 0));
+    assert_eq!(read(&journal(&[0x0105, 0x4100, 0x4100])), (19, 2));
+    assert_eq!(read(&journal(&[0x0105, 0x4101])), (18, 1));
+    assert_eq!(read(&journal(&[0x0105, 0x0000, 0xC000])), (19, 1));
+    assert_eq!(read(&journal(&[0x0105, 0xC000, 0x0000])), (18, 1));
+    assert_eq!(read(&journal(&[0x4001])), (18, 0));
+    assert_eq!(read(&journal(&[0x4000])), (19, 0));
+    assert_eq!(read(&journal(&[0x8100])), (18, 0));
+    assert_eq!(read(&journal(&[0x9001])), (18, 0));
+    assert_eq!(read(&journal(&[0x9000])), (19, 0));
+    assert_eq!(read(&journal(&[0x8800, 0x8000])), (19, 1));
+    assert_eq!(read(&journal(&[0x0200])), (19, 0));
+    assert_eq!(read(&journal(&[0xFFFF])), (18, 0));
+}
+
+#[test]
+fn opening_one_zone() {
+    let refused = Zone::open(1, 2, 0).1;
+    for count in [0, 1, 9, u32::MAX] {
+        assert_eq!(Zone::open(1, count, 7), (2, refused));
+        assert_eq!(Zone::open(0, count, 7), (2, refused));
+    }
+    for (number, count) in [(0, 2), (3, 2), (9, 8), (u32::MAX, 8)] {
+        assert_eq!(Zone::open(number, count, 7), (5, refused));
+    }
+    for count in 2..=8 {
+        for number in 1..=count {
+            let (refusal, zone) = Zone::open(number, count, 65_535);
+            assert_eq!(refusal, 0);
+            assert!(zone.sound());
+            let body = Body {
+                stock: 65_535,
+                events: 0,
+                heard: 1 << (number - 1),
+                mark: Mark::None,
+            };
+            assert_eq!(
+                zone,
+                Zone {
+                    number,
+                    count,
+                    body
+                }
+            );
+        }
+    }
+}
+
+/// The number of a zone step that must be refused: the state and the empty answers are checked.
+fn refusal(zone: Zone, step: impl Fn(Zone) -> (Zone, second::zone::Answer)) -> u32 {
+    let (next, answer) = step(zone);
+    assert_ne!(answer.refusal, 0);
+    assert_eq!(next, zone);
+    assert_eq!(answer.requests, NO_REQUESTS);
+    assert!(!answer.marked);
+    answer.refusal
+}
+
+#[test]
+fn zone_steps_answer_1_on_every_unsound_zone() {
+    let sound = Zone::open(2, 3, 10).1;
+    let mut bad = vec![sound; 11];
+    bad[0].count = 1;
+    bad[1].count = 9;
+    bad[2].count = u32::MAX;
+    bad[3].number = 0;
+    bad[4].number = 4;
+    bad[5].number = u32::MAX;
+    bad[6].body.heard = 0b1010;
+    bad[7].body.stock = 65_536;
+    bad[8].body.stock = u32::MAX;
+    bad[9].body.events = 1_001;
+    bad[10].body.events = u32::MAX;
+    for zone in bad {
+        assert_eq!(refusal(zone, |zone| zone.send(2, 255)), 1);
+        assert_eq!(refusal(zone, |zone| zone.take_hand_over(2, 255, true)), 1);
+        assert_eq!(refusal(zone, |zone| zone.take_request(255)), 1);
+        assert_eq!(refusal(zone, |zone| zone.start()), 1);
+    }
+}
+
+#[test]
+fn zone_steps_ask_in_order() {
+    let mut zone = Zone::open(2, 3, 10).1;
+    zone.body.events = 1_000;
+    for other in [0, 2, 4, u32::MAX] {
+        assert_eq!(refusal(zone, |zone| zone.send(other, 255)), 5);
+        assert_eq!(refusal(zone, |zone| zone.take_hand_over(other, 0, true)), 5);
+    }
+    assert_eq!(refusal(zone, |zone| zone.send(1, 255)), 6);
+    assert_eq!(refusal(zone, |zone| zone.take_hand_over(1, 255, true)), 6);
+    assert_eq!(refusal(zone, |zone| zone.take_request(0b1000)), 5);
+    zone.body.events = 999;
+    assert_eq!(refusal(zone, |zone| zone.send(1, 11)), 7);
+    zone.body.stock = 65_535;
+    assert_eq!(
+        refusal(zone, |zone| zone.take_hand_over(1, 1, true)),
+        20,
+        "a full zone takes no car"
+    );
+    assert_eq!(zone.take_hand_over(1, 0, false).1.refusal, 0);
+    zone.body.stock = 65_535 - 255;
+    assert_eq!(zone.take_hand_over(1, 255, false).0.body.stock, 65_535);
+    for mark in [Mark::Provisional(KEPT), Mark::Firm(KEPT)] {
+        zone.body.mark = mark;
+        assert_eq!(refusal(zone, |zone| zone.start()), 11);
+    }
+    // Requests and starts are no events, so they pass at 1,000 own events.
+    zone.body.events = 1_000;
+    zone.body.mark = Mark::None;
+    assert_eq!(zone.start().1.refusal, 0);
+    assert_eq!(zone.take_request(0).1.refusal, 0);
+}
+
+#[test]
+fn zone_steps_follow_the_rules() {
+    let zone = Zone::open(2, 4, 10).1;
+    let (sent, answer) = zone.send(1, 10);
+    assert_eq!(
+        (sent.body.stock, sent.body.events, answer.marked),
+        (0, 1, false)
+    );
+
+    let (heard, answer) = zone.take_hand_over(3, 5, false);
+    assert_eq!(answer.requests, NO_REQUESTS);
+    assert_eq!((heard.body.stock, heard.body.heard), (15, 0b0110));
+    let (marked, _) = heard.take_hand_over(1, 2, true);
+    let saved = Saved {
+        stock: 15,
+        events: 1,
+    };
+    assert_eq!(marked.body.mark, Mark::Provisional(saved));
+    assert_eq!((marked.body.stock, marked.body.heard), (17, 0b0110));
+    assert!(marked.send(1, 1).1.marked);
+
+    // Once marked, the heard set and the mark stay.
+    for bit in [false, true] {
+        let (next, _) = marked.take_hand_over(4, 0, bit);
+        assert_eq!(next.body.heard, marked.body.heard);
+        assert_eq!(next.body.mark, marked.body.mark);
+        assert_eq!(next.body.events, 3);
+    }
+
+    // A request makes the mark firm, and goes on to heard zones outside the received set.
+    let (firm, answer) = marked.take_request(0b0001);
+    assert_eq!(firm.body.mark, Mark::Firm(saved));
+    let requests = Requests {
+        to: 0b0100,
+        carried: 0b0111,
+    };
+    assert_eq!(answer.requests, requests);
+    let (_, answer) = marked.take_request(0b1100);
+    assert_eq!(answer.requests, NO_REQUESTS);
+    let (dropped, answer) = firm.take_request(0);
+    assert_eq!((dropped, answer.requests), (firm, NO_REQUESTS));
+    assert!(firm.send(1, 0).1.marked);
+
+    // An unmarked zone takes a firm mark with the stock of that moment.
+    let (firm, _) = heard.take_request(0b1111);
+    assert_eq!(firm.body.mark, Mark::Firm(saved));
+    let (firm, answer) = heard.start();
+    assert_eq!(firm.body.mark, Mark::Firm(saved));
+    let requests = Requests {
+        to: 0b0100,
+        carried: 0b0110,
+    };
+    assert_eq!(answer.requests, requests);
+    assert_eq!(zone.start().1.requests, NO_REQUESTS);
+
+    // A heard set need not have the zone itself; the request carries it as it is.
+    let mut odd = zone;
+    odd.body.heard = 0b1001;
+    let requests = Requests {
+        to: 0b1001,
+        carried: 0b1001,
+    };
+    assert_eq!(odd.start().1.requests, requests);
+}
+
+/// Random lists of calls: zones of the zone part, kept side by side with lines of the test,
+/// follow the site engine step by step.
+#[test]
+fn the_zone_part_keeps_step_with_the_site() {
+    let mut random = Random::new(1);
+    for _ in 0..400 {
+        let count = random.within(2, 8);
+        let opening = stocks(&mut random, count);
+        let mut run = opened(&opening);
+        let mut zones: Vec<Zone> = (0..count)
+            .map(|index| Zone::open(index + 1, count, opening[index as usize]).1)
+            .collect();
+        drive(&mut random, count, 80, &mut |call| {
+            let before = run.clone();
+            let number = run.call(call);
+            if number != 0 {
+                assert!(run == before);
+                return number;
+            }
+            let (index, answer) = match call {
+                Call::HandOver { from, to, cars } => {
+                    let index = from as usize - 1;
+                    let (next, answer) = zones[index].send(to, cars);
+                    zones[index] = next;
+                    let marked = answer.marked;
+                    let item = Item::HandOver { cars, marked };
+                    assert_eq!(run.lines[index][to as usize - 1].back(), Some(&item));
+                    (index, answer)
+                }
+                Call::Receipt { from, to } => {
+                    let index = to as usize - 1;
+                    let item = before.lines[from as usize - 1][index][0];
+                    let (next, answer) = match item {
+                        Item::HandOver { cars, marked } => {
+                            zones[index].take_hand_over(from, cars, marked)
+                        }
+                        Item::Request { set } => zones[index].take_request(set),
+                    };
+                    zones[index] = next;
+                    (index, answer)
+                }
+                Call::Start { zone } => {
+                    let index = zone as usize - 1;
+                    let (next, answer) = zones[index].start();
+                    zones[index] = next;
+                    (index, answer)
+                }
+            };
+            assert_eq!(answer.refusal, 0);
+            assert_eq!(zones[index].body, run.zones[index]);
+            for other in 0..count as usize {
+                let line = &run.lines[index][other];
+                let old = &before.lines[index][other];
+                if answer.requests.to & 1 << other != 0 {
+                    let set = answer.requests.carried;
+                    assert_eq!(line.back(), Some(&Item::Request { set }));
+                    assert_eq!(line.len(), old.len() + 1);
+                }
+            }
+            number
+        });
+        for (zone, body) in zones.iter().zip(&run.zones) {
+            assert_eq!(zone.body, *body);
+        }
+    }
+}
+
+/// Random states, most of them untrue: no call panics, a refusal changes nothing, and an
+/// accepted call hands back a sound run.
+#[test]
+fn no_call_panics_on_random_states() {
+    let mut random = Random::new(2);
+    let mut accepted = 0;
+    for _ in 0..600 {
+        let count = random.within(2, 8);
+        let mut run = opened(&stocks(&mut random, count));
+        run.records = vec![0; random.below(1_003)];
+        for body in &mut run.zones {
+            body.heard = (random.within(0, 255) & ((1 << count) - 1)) as u8;
+            body.events = random.within(0, 3);
+            let saved = Saved {
+                stock: random.within(0, u32::MAX),
+                events: random.within(0, u32::MAX),
+            };
+            body.mark = match random.below(6) {
+                0 => Mark::Provisional(saved),
+                1 => Mark::Firm(saved),
+                _ => Mark::None,
+            };
+        }
+        for line in run.lines.iter_mut().flatten() {
+            if random.chance(40) {
+                for _ in 0..random.below(17) {
+                    line.push_back(match random.below(3) {
+                        0 => Item::Request {
+                            set: (random.within(0, 255) & ((1 << count) - 1)) as u8,
+                        },
+                        _ => hand_over(random.within(0, 9) as u8),
+                    });
+                }
+            }
+        }
+        // Some states are unsound by one more field.
+        match random.below(12) {
+            0 => run.count = random.within(0, u32::MAX),
+            1 => run.zones[0].stock = random.within(0, u32::MAX),
+            2 => run.zones[0].events = random.within(0, u32::MAX),
+            3 => run.zones[0].heard = random.within(0, 255) as u8,
+            4 => run.lines[0][1].extend([Item::Request { set: 255 }; 20]),
+            _ => (),
+        }
+        drive(&mut random, count, 20, &mut |call| {
+            let before = run.clone();
+            let number = run.call(call);
+            if number == 0 {
+                accepted += 1;
+                assert!(before.sound() && run.sound());
+                assert_eq!(run.records.len(), before.records.len() + 1);
+            } else {
+                assert_eq!(number == 1, !before.sound());
+                assert!(run == before);
+            }
+            number
+        });
+        let mut lent = [0; MOST_BYTES];
+        let (refusal, _) = recording::write(&run, &mut lent);
+        assert!(refusal == 1 || run.true_run());
+    }
+    assert!(accepted > 5_000);
+}

@@ -1,0 +1,241 @@
+//! Random runs and generated journals: round trips and demand 3.
+
+use second::demand3::{account, check, check_bytes, look, Finding};
+use second::generate::{bytes_of, journals, traits};
+use second::journal;
+use second::print;
+use second::random::{drive, finish, stocks, Random};
+use second::recording;
+use second::site::{Call, Run};
+use std::collections::BTreeMap;
+
+/// A run after a random list of calls, with the opening and the list.
+fn random_run(random: &mut Random, length: usize) -> (Vec<u16>, Vec<(Call, u32)>, Run) {
+    let zones = random.within(2, 8);
+    let opening = stocks(random, zones);
+    let (refusal, mut run) = Run::open(zones, &opening);
+    assert_eq!(refusal, 0);
+    let calls = drive(random, zones, length, &mut |call| run.call(call));
+    (opening, calls, run)
+}
+
+#[test]
+fn journals_of_random_runs_read_back_as_the_same_run() {
+    let mut random = Random::new(3);
+    for turn in 0..600 {
+        let length = if turn % 20 == 0 { 2_500 } else { 90 };
+        let (_, _, run) = random_run(&mut random, length);
+        let bytes = bytes_of(&run);
+        let reading = journal::read(&bytes);
+        assert_eq!((reading.refusal, reading.position), (0, 0));
+        assert!(reading.run.same(&run));
+        assert_eq!(bytes_of(&reading.run), bytes);
+    }
+}
+
+#[test]
+fn accepted_journals_are_written_back_as_the_same_bytes() {
+    let mut random = Random::new(4);
+    let mut accepted = 0;
+    for mut bytes in journals(5, 400) {
+        for _ in 0..3 {
+            let reading = journal::read(&bytes);
+            if reading.refusal == 0 {
+                accepted += 1;
+                assert_eq!(bytes_of(&reading.run), bytes);
+            }
+            // The next turn has one more bit turned.
+            if !bytes.is_empty() {
+                let place = random.below(bytes.len());
+                bytes[place] ^= 1 << random.below(8);
+            }
+        }
+    }
+    assert!(accepted > 200);
+}
+
+#[test]
+fn demand_3_holds_on_thousands_of_random_complete_runs() {
+    let mut random = Random::new(6);
+    let (mut complete, mut incomplete, mut unstarted, mut turned) = (0, 0, 0, 0);
+    for turn in 0..6_000 {
+        let length = match turn % 50 {
+            0 => 1_500,
+            1..=20 => 30,
+            _ => 100,
+        };
+        let (opening, calls, run) = random_run(&mut random, length);
+        let seen = look(&opening, calls, &run);
+        assert_eq!(check(&seen), []);
+        match seen.answer {
+            0 => complete += 1,
+            12 => unstarted += 1,
+            13 => incomplete += 1,
+            other => panic!("a true run was refused with {other}"),
+        }
+        if seen.answer == 0 {
+            turned += u32::from(traits(&bytes_of(&run)).turned_firm);
+        }
+    }
+    println!("{complete} complete, {turned} of them turned firm, {incomplete} incomplete, {unstarted} unstarted");
+    assert!(complete > 2_500 && turned > 200 && incomplete > 100 && unstarted > 100);
+}
+
+/// Every list of accepted calls up to a length, on two zones with one car each and on three.
+#[test]
+fn demand_3_holds_on_every_short_list() {
+    let mut checked = 0;
+    every_list(&[1, 1], 10, &mut checked);
+    every_list(&[1, 0, 1], 7, &mut checked);
+    println!("{checked} complete lists");
+    assert!(checked > 10_000);
+}
+
+fn every_list(opening: &[u16], length: usize, checked: &mut u32) {
+    let zones = opening.len() as u32;
+    let mut choices = Vec::new();
+    for from in 1..=zones {
+        choices.push(Call::Start { zone: from });
+        for to in (1..=zones).filter(|&to| to != from) {
+            choices.push(Call::Receipt { from, to });
+            choices.push(Call::HandOver { from, to, cars: 1 });
+        }
+    }
+    let (_, run) = Run::open(zones, opening);
+    extend(opening, &choices, &mut Vec::new(), &run, length, checked);
+}
+
+fn extend(
+    opening: &[u16],
+    choices: &[Call],
+    calls: &mut Vec<(Call, u32)>,
+    run: &Run,
+    left: usize,
+    checked: &mut u32,
+) {
+    let seen = look(opening, calls.clone(), run);
+    assert_eq!(check(&seen), []);
+    *checked += u32::from(seen.answer == 0);
+    if left == 0 {
+        return;
+    }
+    for &call in choices {
+        let mut next = run.clone();
+        if next.call(call) == 0 {
+            calls.push((call, 0));
+            extend(opening, choices, calls, &next, left - 1, checked);
+            calls.pop();
+        }
+    }
+}
+
+/// The checker is no rubber stamp: a recording with any one bit turned is found out, and so are
+/// a shorter and a longer one.
+#[test]
+fn the_checker_finds_every_turned_bit() {
+    let mut random = Random::new(7);
+    let mut by_demand_3_alone = 0;
+    let mut by_the_layout_alone = 0;
+    for _ in 0..300 {
+        let (opening, mut calls, mut run) = random_run(&mut random, 60);
+        if !run.started() {
+            let call = Call::Start { zone: 1 };
+            calls.push((call, run.call(call)));
+        }
+        let records = run.records.len();
+        finish(&mut random, &mut run);
+        for &word in &run.records[records..] {
+            calls.push((journal::decode(word).unwrap(), 0));
+        }
+        let seen = look(&opening, calls, &run);
+        if seen.answer != 0 {
+            continue;
+        }
+        assert_eq!(check(&seen), []);
+        for bit in 0..8 * seen.bytes.len() {
+            let mut other = seen.clone();
+            other.bytes[bit / 8] ^= 1 << (bit % 8);
+            let findings = check(&other);
+            assert!(!findings.is_empty());
+            if findings == [Finding::Unrecorded] {
+                by_the_layout_alone += 1;
+            } else {
+                by_demand_3_alone += 1;
+            }
+        }
+        let mut other = seen.clone();
+        other.bytes.pop();
+        assert_eq!(check(&other), [Finding::Bytes]);
+        let mut other = seen.clone();
+        other.bytes.extend([0, 0]);
+        assert_eq!(check(&other), [Finding::Bytes]);
+        let mut other = seen.clone();
+        other.stocks[0] += 1;
+        assert_eq!(check(&other), [Finding::PresentStocks]);
+        let mut other = seen.clone();
+        other.lines[0][1].insert(0, 0);
+        assert_eq!(check(&other), [Finding::PresentLines]);
+        let mut other = seen.clone();
+        other.answer = 13;
+        assert_eq!(check(&other), [Finding::Completion]);
+    }
+    println!("{by_demand_3_alone} found by demand 3, {by_the_layout_alone} by the layout alone");
+    assert!(by_demand_3_alone > 10_000);
+}
+
+/// The checker works out the same marks as the run, and takes bytes that someone else wrote.
+#[test]
+fn the_checker_takes_bytes_of_others() {
+    let mut random = Random::new(8);
+    for _ in 0..300 {
+        let (opening, calls, run) = random_run(&mut random, 60);
+        let account = account(opening.len(), &calls);
+        assert!(account.by_rules);
+        assert_eq!(account.complete, run.started() && !run.holds_request());
+        let mut lent = [0; print::MOST_BYTES];
+        let (refusal, written) = recording::write(&run, &mut lent);
+        let calls: Vec<Call> = calls.iter().map(|&(call, _)| call).collect();
+        let findings = check_bytes(&opening, &calls, &lent[..written]);
+        assert_eq!(findings.is_empty(), refusal == 0);
+    }
+}
+
+#[test]
+fn generated_journals_have_every_kind() {
+    let all = journals(2_026, 400);
+    assert!(
+        all == journals(2_026, 400),
+        "the generator is deterministic"
+    );
+    let length: usize = all.iter().map(|journal| 2 + journal.len()).sum();
+    assert!(length < 300_000);
+    let mut numbers = BTreeMap::new();
+    let (mut turned, mut above) = (0, 0);
+    for journal in &all {
+        let traits = traits(journal);
+        *numbers.entry(traits.refusal).or_insert(0) += 1;
+        turned += u32::from(traits.turned_firm);
+        above += u32::from(traits.above_16);
+    }
+    let kinds: Vec<u32> = numbers.keys().copied().collect();
+    assert_eq!(kinds, [0, 4, 12, 13, 15, 16, 17, 18, 19]);
+    assert!(numbers.values().all(|&times| times >= 8));
+    assert!(turned >= 20 && above >= 20);
+}
+
+#[test]
+fn generated_complete_journals_meet_demand_3() {
+    for bytes in journals(2_026, 400) {
+        let reading = journal::read(&bytes);
+        if reading.refusal == 0 {
+            let run = reading.run;
+            let calls = run
+                .records
+                .iter()
+                .map(|&word| (journal::decode(word).unwrap(), 0))
+                .collect();
+            let seen = look(&run.opening[..run.size()], calls, &run);
+            assert_eq!(check(&seen), []);
+        }
+    }
+}
