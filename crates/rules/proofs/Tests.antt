@@ -1,10 +1,10 @@
 -- What tests on zone numbers say when they are joined by "and" and "or". Assumes nothing.
 use mathlib.Core.Path.{_≡_, refl, sym, _∙_}
-use mathlib.Core.Bool.{Bool, true, false, _&&_, _||_, and-false, true≢false, false≢true}
+use mathlib.Core.Bool.{Bool, true, false, _&&_, _||_, and-false, true≢false, false≢true, not}
 use mathlib.Core.Logic.{_≢_, _⊎_, inl, inr}
 use Prim.Native.Nat.{ℕ}
 use lib.Dec.{eqb}
-use borrow.Author.Tests.{eqb-true, eqb-false, eq-eqb, ne-eqb}
+use borrow.Author.Tests.{eqb-true, eqb-false, eq-eqb, ne-eqb, not-true, not-false}
 
 pub eqb-refl : (a : ℕ) → eqb a a ≡ true
 eqb-refl a = eq-eqb a a refl
@@ -80,3 +80,10 @@ apart-receivers a b x y ne i j = go (eqb i a) (eqb i x) (eqb j b) (eqb j y) (apa
     go false v p q e = refl
     go true false p q e = and-false p
     go true true p q e = e
+
+-- What a call's negated test says of its callee's meaning.
+pub no : {t s : Bool} → t ≡ s → not t ≡ true → s ≡ false
+no {t} e h = sym e ∙ not-true t h
+
+pub yes : {t s : Bool} → t ≡ s → not t ≡ false → s ≡ true
+yes {t} e h = sym e ∙ not-false t h

@@ -31,13 +31,6 @@ use Rattle.run.proofs.Facts.{channel-at, place-lt, sound-high, sound-records, s
 use Rattle.steps.specs.Ready.{Ready, answerAs, refusedBy}
 use Rattle.steps.specs.declared.Acted.{Acted}
 
--- What a call's negated test says of the callee's meaning.
-pub no : {t s : Bool} → t ≡ s → not t ≡ true → s ≡ false
-no {t} e h = sym e ∙ not-true t h
-
-pub yes : {t s : Bool} → t ≡ s → not t ≡ false → s ≡ true
-yes {t} e h = sym e ∙ not-false t h
-
 -- The zone that acted unchanged leaves the zones unchanged.
 pub kept : (zones : List Local) (at : ℕ) (z : Local) → zoneAt zones at ≡ z → set zones at z ≡ zones
 kept zones at z e = rw (← e) (set-getD zones at noLocal)

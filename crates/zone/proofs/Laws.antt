@@ -14,12 +14,6 @@ use Rattle.rules.proofs.QuestionLaws.{count-high, on-low, on-high}
 use Rattle.zone.specs.Zone.{isOther, isSound}
 use Rattle.zone.specs.declared.Zone.{Zone}
 
-pub no : {t s : Bool} → t ≡ s → not t ≡ true → s ≡ false
-no {t} e h = sym e ∙ not-true t h
-
-pub yes : {t s : Bool} → t ≡ s → not t ≡ false → s ≡ true
-yes {t} e h = sym e ∙ not-false t h
-
 -- A zone's number on a site is 1 to 8.
 pub on-site : (count k : ℕ) → isCount count ≡ true → isOn count k ≡ true → (1 ≤ k) × (k ≤ 8)
 on-site count k h g =

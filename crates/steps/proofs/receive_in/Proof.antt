@@ -11,24 +11,8 @@ use Rattle.channel.specs.Channels.{channelsAs, place, lenOf}
 use Rattle.run.specs.Calls.{isPair}
 use Rattle.run.specs.State.{zoneAt, isChannel}
 use Rattle.run.proofs.Facts.{channel-at, place-lt}
-use Rattle.steps.proofs.Laws.{
-  no,
-  yes,
-  Pair,
-  pair,
-  ready-high,
-  ready-events,
-  ready-set,
-  ready-room,
-  stays,
-  receive-5,
-  receive-6,
-  receive-9,
-  receive-10,
-  receive-0,
-  some-full,
-  none-full,
-}
+use Rattle.rules.proofs.Tests.{no, yes}
+use Rattle.steps.proofs.Laws.{Pair, pair, ready-high, ready-events, ready-set, ready-room, stays, receive-5, receive-6, receive-9, receive-10, receive-0, some-full, none-full}
 use borrow.Author.Needs.{needs}
 use Rattle.steps.proofs.receive_in.Statement.{statement}
 use Rattle.steps.proofs.receive_in.Tie as tie

@@ -7,7 +7,8 @@ use Rattle.rules.specs.Questions.{index}
 use Rattle.rules.specs.declared.Local.{Local}
 use Rattle.run.specs.Calls.{isPair}
 use Rattle.run.specs.State.{zoneAt}
-use Rattle.steps.proofs.Laws.{no, yes, Pair, pair, ready-high, ready-events, stays, send-5, send-6, send-7, send-8, send-0}
+use Rattle.rules.proofs.Tests.{no, yes}
+use Rattle.steps.proofs.Laws.{Pair, pair, ready-high, ready-events, stays, send-5, send-6, send-7, send-8, send-0}
 use borrow.Author.Needs.{needs}
 use Rattle.steps.proofs.send_in.Statement.{statement}
 use Rattle.steps.proofs.send_in.Tie as tie

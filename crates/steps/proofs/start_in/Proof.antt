@@ -5,7 +5,8 @@ use Prim.Native.Nat.{ℕ, _-_, _<_, _≤_}
 use native.Mathlib.Omega.{arith}
 use Rattle.rules.specs.Questions.{index, isOn}
 use Rattle.rules.proofs.QuestionLaws.{on-low, on-high}
-use Rattle.steps.proofs.Laws.{no, yes, ready-high, stays, start-5, start-6, start-11, start-10, start-0, some-full, none-full}
+use Rattle.rules.proofs.Tests.{no, yes}
+use Rattle.steps.proofs.Laws.{ready-high, stays, start-5, start-6, start-11, start-10, start-0, some-full, none-full}
 use borrow.Author.Needs.{needs}
 use Rattle.steps.proofs.start_in.Statement.{statement}
 use Rattle.steps.proofs.start_in.Tie as tie

@@ -1,5 +1,6 @@
 -- `zone::Zone::open` meets its contract. Assumes nothing.
-use Rattle.zone.proofs.Laws.{no, yes, on-site}
+use Rattle.rules.proofs.Tests.{no, yes}
+use Rattle.zone.proofs.Laws.{on-site}
 use Rattle.zone.specs.Zone.{openZone}
 use borrow.Author.Needs.{needs}
 use Rattle.zone.proofs.Zone.open.Statement.{statement}

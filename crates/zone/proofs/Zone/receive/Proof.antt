@@ -4,7 +4,8 @@ use mathlib.Core.Bool.{true}
 use Prim.Native.Nat.{_+_, _<_, _≤_}
 use native.Mathlib.Omega.{arith}
 use borrow.Author.Tests.{lt-ltb, le-ltb, le-leb, lt-leb}
-use Rattle.zone.proofs.Laws.{no, yes, other-number}
+use Rattle.rules.proofs.Tests.{no, yes}
+use Rattle.zone.proofs.Laws.{other-number}
 use Rattle.zone.specs.Zone.{receiveStep, isSound, isOther}
 use borrow.Author.Needs.{needs}
 use Rattle.zone.proofs.Zone.receive.Statement.{statement}

@@ -3,7 +3,7 @@ use mathlib.Core.Path.{_≡_}
 use mathlib.Core.Bool.{true}
 use native.Mathlib.Omega.{arith}
 use borrow.Author.Tests.{lt-ltb, le-ltb, le-leb, lt-leb}
-use Rattle.zone.proofs.Laws.{no, yes}
+use Rattle.rules.proofs.Tests.{no, yes}
 use Rattle.zone.specs.Zone.{sendStep, isSound, isOther}
 use borrow.Author.Needs.{needs}
 use Rattle.zone.proofs.Zone.send.Statement.{statement}
