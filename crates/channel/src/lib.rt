@@ -18,7 +18,7 @@ pub struct Channels {
     pub lens: [u8; 64],
 }
 
-// The place of the channel from one zone to another, both by index.
+// The place of the channel from one zone to another, both by index. A site has at most 8 zones, so the indices are below 8.
 pub fn place(from: usize, to: usize) -> usize
     requires { ⌜ (from < 8) × (to < 8) ⌝ }
     ensures { λ k. ⌜ (k ≡ Rattle.channel.specs.Channels.place from to) × (k < 64) ⌝ }
@@ -26,7 +26,7 @@ pub fn place(from: usize, to: usize) -> usize
     from * 8 + to
 }
 
-// One item more at the end of a channel; a full channel stays as it is.
+// One item more at the end of a channel; a full channel stays as it is. The place is one that `place` gives.
 pub fn push(items: &mut [u16; 1024], lens: &mut [u8; 64], k: usize, word: u16)
     requires { ⌜ k < 64 ⌝ }
     ensures { λ r. ⌜
@@ -41,7 +41,7 @@ pub fn push(items: &mut [u16; 1024], lens: &mut [u8; 64], k: usize, word: u16)
     lens[k] = n + 1;
 }
 
-// The first item leaves a channel that holds one.
+// The first item leaves a channel that holds one: question 9 has been asked.
 pub fn pop(items: &mut [u16; 1024], lens: &mut [u8; 64], k: usize) -> u16
     requires { ⌜ (k < 64) × (0 < getD (now lens) k 0) ⌝ }
     ensures { λ r. ⌜
@@ -60,7 +60,7 @@ pub fn pop(items: &mut [u16; 1024], lens: &mut [u8; 64], k: usize) -> u16
     first
 }
 
-// The number of the lowest zone of a set whose channel is full; 0 where all have a free place.
+// The number of the lowest zone of a set whose channel is full; 0 where all have a free place. The index is of a zone of a site.
 pub fn first_full(lens: &[u8; 64], from: usize, to: u8) -> u8
     requires { ⌜ from < 8 ⌝ }
     ensures { λ r. ⌜
@@ -80,7 +80,7 @@ pub fn first_full(lens: &[u8; 64], from: usize, to: u8) -> u8
 }
 
 // A request, carrying a set, on the channel to each zone of another set: as many as that set has ones, the next one to the zone that
-// its trailing zeros name.
+// its trailing zeros name. The index is of a zone of a site.
 pub fn request_all(items: &mut [u16; 1024], lens: &mut [u8; 64], from: usize, to: u8, set: u8)
     requires { ⌜ from < 8 ⌝ }
     ensures { λ r. ⌜

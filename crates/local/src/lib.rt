@@ -1,5 +1,5 @@
-// The steps of one zone's local state, without questions: what the zone part and the site engine both run. Each is the rule of the
-// same name in the rules' specs/Zone.antt. Zones are named by index: the number less one.
+// The steps of one zone's local state, without questions: what the zone part and the site engine both run. Each is a rule of the
+// rules' specs/Zone.antt, or of this crate's specs/Asked.antt. Zones are named by index: the number less one.
 ghost use mathlib.Core.Path.{_≡_};
 ghost use Prim.Native.Nat.{_+_, _<_, _≤_};
 ghost use Rattle.rules.specs.Zone.{isMarked, isPermanent, opened, sent, depsAfter, checkpointAfter, received, withCheckpoint};
@@ -154,7 +154,7 @@ fn turn(z: Local, kept: Saved, me: u8, set: u8) -> Asked
     }
 }
 
-// Receipt of a request.
+// Receipt of a request. The index is below 8, as a set of zones has 8 bits.
 pub fn request(z: Local, me: u8, set: u8) -> Asked
     requires { ⌜ me < 8 ⌝ }
     ensures { λ r. ⌜ r ≡ requestedBy me set z ⌝ }
@@ -175,7 +175,7 @@ pub fn request(z: Local, me: u8, set: u8) -> Asked
     }
 }
 
-// Start: a permanent checkpoint of this moment, whatever stood before.
+// Start: a permanent checkpoint of this moment, whatever stood before. The index is below 8, as a set of zones has 8 bits.
 pub fn start(z: Local, me: u8) -> Asked
     requires { ⌜ me < 8 ⌝ }
     ensures { λ r. ⌜ r ≡ startedBy me z ⌝ }

@@ -57,7 +57,7 @@ pub fn same_local(a: Local, b: Local) -> bool
     (a.stock == b.stock) & (a.deps == b.deps) & (a.events == b.events) & marks
 }
 
-// Whether the zones of a site of `count` zones are the same.
+// Whether the zones of a site of `count` zones are the same. The caller has asked question 1, so the site has at most 8.
 pub fn same_zones(count: u8, a: [Local; 8], b: [Local; 8]) -> bool
     requires { ⌜ count ≤ 8 ⌝ }
     ensures { λ r. ⌜ r ≡ sameZones count a b ⌝ }
@@ -137,7 +137,7 @@ pub fn same_channels(
     same
 }
 
-// Whether a run has the state of another one, over the zones and channels of the other's site.
+// Whether a run has the state of another one, over the zones and channels of the other's site, which has at most 8 zones.
 pub fn same_state(a: Run, b: Run) -> bool
     requires { ⌜ b .count ≤ 8 ⌝ }
     ensures { λ r. ⌜
