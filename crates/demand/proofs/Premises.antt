@@ -6,7 +6,7 @@ use Prim.Native.Nat.{ℕ}
 use native.Mathlib.Omega.{arith}
 use base.Fml.{Lft}
 use denote.Ref.{RefT}
-use lib.ListN.{replicate}
+use lib.ListN.{take, replicate}
 use Rattle.rules.specs.Cut.{Complete, Cut, run}
 use Rattle.rules.specs.Questions.{isCount, isOn}
 use Rattle.rules.specs.Sets.{has, members}
@@ -39,7 +39,7 @@ use Rattle.recording.specs.Layout.{itemWords, recordingBytes}
 use Rattle.recording.specs.Shown.{shownIn}
 use Rattle.demand.specs.Demand.{Demand}
 use Rattle.demand.specs.Made.{Opened, Answered, Made, done, then, Recorded}
-use Rattle.demand.proofs.Recorded.{true-demand}
+use Rattle.demand.proofs.Three.{demand-three}
 
 answered : (c : SiteCall) (r : Run) → Answered c r (answer c r)
 answered (Send from to cars) r = refl
@@ -76,7 +76,17 @@ answeredA : recordCall (after callsA (openCall 3 stocksA .run)) (replicate 16 0)
 unfolding has members isCount isOn requestedBy startedBy itemOf messageWord pushed movedDown popped allFree requestedAll isChannel zoneSound zonesSound channelSound channelsSound stocks carsOnChannels partsSound hasStarted openedRun isPair openCall sendCall receiveCall startCall journalBytes decode readCall sameLocal sameChannel sameZones sameChannels replaysTo isReplayed noRequests recordCall itemWords recordingBytes
 answeredA = refl
 
--- So demand 3 says of case A that its recording, as its bytes show it, is a consistent cut.
-pub case-a : Cut (stocksOf stocksA) (acceptedCalls callsA (openCall 3 stocksA .run))
-    (shownIn (recordCall (after callsA (openCall 3 stocksA .run)) (replicate 16 0) .bytes))
-case-a = true-demand 3 stocksA openedA callsA typedA (replicate 16 0) .cut answeredA
+-- A reference to other contents, at the same place.
+abbrev to : RefT (List ℕ) → List ℕ → RefT (List ℕ)
+to x l = record { ptr = x .ptr; name = x .name; now = l }
+
+-- So demand 3 says of case A, whatever the loans, that its recording, as the bytes written show it, is a consistent cut.
+pub case-a : (κ : Lft) (x : RefT (List ℕ))
+    → Cut (stocksOf stocksA) (acceptedCalls callsA (openCall 3 stocksA .run))
+    (shownIn (take (recordCall (after callsA (openCall 3 stocksA .run)) (replicate 16 0) .answer .written)
+    (recordCall (after callsA (openCall 3 stocksA .run)) (replicate 16 0) .bytes)))
+case-a κ x =
+    let r = after callsA (openCall 3 stocksA .run) in
+    let o = recordCall r (replicate 16 0) in
+    demand-three κ 3 (to x stocksA) (openCall 3 stocksA) (opens κ 3 (to x stocksA)) openedA callsA _ r (makes callsA (openCall 3 stocksA .run) typedA)
+    κ (to x (replicate 16 0)) (to x (o .bytes)) (o .answer) (records κ r (to x (replicate 16 0)) (to x (o .bytes)) refl) .cut answeredA

@@ -1,22 +1,25 @@
 -- Demand 3 of a true run and of the recording call's definition. Assumes nothing.
 use mathlib.Core.Path.{_≡_, refl, sym, _∙_, ap, ap₂, subst}
-use mathlib.Core.Bool.{Bool, true, false, false≢true}
-use mathlib.Core.Logic.{_≢_, _⊎_, inl, inr}
-use mathlib.Core.List.{List, [], _∷_, _++_}
+use mathlib.Core.Bool.{Bool, true, false, cond, false≢true}
+use mathlib.Core.Logic.{inl, inr}
+use mathlib.Core.List.{List, [], _∷_, _++_, append-nil}
 use Prim.Native.Nat.{ℕ, _≤_, _<_}
 use native.Mathlib.Omega.{arith}
-use borrow.Author.Tests.{leb-true, le-leb, eqb-true}
-use lib.Dec.{leb, eqb}
+use borrow.Author.Tests.{le-leb, leb-false, ltb-true}
+use lib.Dec.{leb, ltb}
+use lib.Seq.{take-append-seam}
 use lib.ListN.{length, take, drop}
 use Rattle.rules.specs.Change.{cons-if}
 use Rattle.rules.specs.Cut.{Complete, Cut, run, present, snapshot}
 use Rattle.rules.specs.Questions.{question, ask}
 use Rattle.rules.specs.Site.{Site, Call, openS}
+use Rattle.rules.specs.Zone.{isPermanent, opened}
 use Rattle.run.specs.Calls.{openCall}
 use Rattle.run.specs.Claims.{Among, AllTyped, WholeRun, recordOf, acceptedRecords}
 use Rattle.run.specs.Lists.{SiteCall, answer, isAccepted, callOf, after, acceptedCalls}
 use Rattle.run.specs.Model.{siteOf, stocksOf}
-use Rattle.run.specs.State.{hasStarted}
+use Rattle.run.specs.State.{zoneAt, hasStarted}
+use Rattle.run.proofs.BelowLaws.{any-none}
 use Rattle.run.specs.declared.Run.{Run}
 use Rattle.run.proofs.Reach.{reach}
 use Rattle.run.proofs.Whole.{open-whole, after-whole}
@@ -48,80 +51,99 @@ calls-decoded (c ∷ cs) r t = go (isAccepted c r) refl (calls-decoded cs (answe
     go false e h = h
 
 -- How the recording call answers once question 1 is answered yes.
-pub record Answers (r : Run) (lent : List ℕ) (w : Written) (bytes : List ℕ) : Type 0 where
-  pub accepted : w .refusal ≡ 0
-      → (hasStarted (r .count) (r .zones) ≡ true) × (noRequests (r .count) (r .channels) ≡ true)
-      × (bytes ≡ recordingBytes (r .count) (snapshotOf r) ++ drop (length (recordingBytes (r .count) (snapshotOf r))) lent)
-  pub accepts : hasStarted (r .count) (r .zones) ≡ true → noRequests (r .count) (r .channels) ≡ true
-      → length (recordingBytes (r .count) (snapshotOf r)) ≤ length lent → w .refusal ≡ 0
-  pub refusals : Among (w .refusal) (0 ∷ 12 ∷ 13 ∷ 14 ∷ [])
+abbrev Started : Run → Type 0
+Started r = hasStarted (r .count) (r .zones) ≡ true
 
-module _ (r : Run) (lent : List ℕ) (replayed : isReplayed r ≡ true) where
-  -- A refusal with a number other than 0.
-  refused-answers : (n : ℕ) → n ≢ 0 → Among n (0 ∷ 12 ∷ 13 ∷ 14 ∷ [])
-      → (hasStarted (r .count) (r .zones) ≡ true → noRequests (r .count) (r .channels) ≡ true
-      → length (recordingBytes (r .count) (snapshotOf r)) ≤ length lent → ⊥)
-      → recordCall r lent ≡ refusedOutput lent n → Answers r lent (recordCall r lent .answer) (recordCall r lent .bytes)
-  refused-answers n other among cause p =
-      subst (λ (o : Output). Answers r lent (o .answer) (o .bytes)) (sym p)
-      (record { accepted = λ z. absurd (other z); accepts = λ x y z. absurd (cause x y z); refusals = among })
+abbrev Free : Run → Type 0
+Free r = noRequests (r .count) (r .channels) ≡ true
 
-  is-12 : hasStarted (r .count) (r .zones) ≡ false → recordCall r lent ≡ refusedOutput lent 12
-  unfolding recordCall
-  is-12 e = rw (replayed, e)
+abbrev bytesOf : Run → List ℕ
+bytesOf r = recordingBytes (r .count) (snapshotOf r)
 
-  is-13 : hasStarted (r .count) (r .zones) ≡ true → noRequests (r .count) (r .channels) ≡ false → recordCall r lent ≡ refusedOutput lent 13
-  unfolding recordCall
-  is-13 e f = rw (replayed, e, f)
+record Answers (r : Run) (lent : List ℕ) (o : Output) : Type 0 where
+  accepted : o .answer .refusal ≡ 0 → Started r × Free r × (take (o .answer .written) (o .bytes) ≡ bytesOf r)
+  accepts : Started r → Free r → length (bytesOf r) ≤ length lent → o .answer .refusal ≡ 0
+  refusals : Among (o .answer .refusal) (0 ∷ 12 ∷ 13 ∷ 14 ∷ [])
+  twelve : o .answer .refusal ≡ 12 → hasStarted (r .count) (r .zones) ≡ false
+  thirteen : o .answer .refusal ≡ 13 → noRequests (r .count) (r .channels) ≡ false
+  fourteen : o .answer .refusal ≡ 14 → Started r × Free r × (length lent < length (bytesOf r))
 
-  is-14 : hasStarted (r .count) (r .zones) ≡ true → noRequests (r .count) (r .channels) ≡ true
-      → leb (length (recordingBytes (r .count) (snapshotOf r))) (length lent) ≡ false → recordCall r lent ≡ refusedOutput lent 14
-  unfolding recordCall
-  is-14 e f g = rw (replayed, e, f, g)
+-- The call's output by the answers to questions 12, 13 and 14.
+answered-by : (r : Run) (lent : List ℕ) (x y z : Bool) → hasStarted (r .count) (r .zones) ≡ x → noRequests (r .count) (r .channels) ≡ y
+    → leb (length (bytesOf r)) (length lent) ≡ z
+    → Answers r lent (cond x (cond y (cond z (writtenOutput lent (bytesOf r)) (refusedOutput lent 14)) (refusedOutput lent 13)) (refusedOutput lent 12))
+answered-by r lent false y z e f g = record {
+  accepted = λ (q : _≡_ {A = ℕ} 12 0). absurd (omega arith);
+  accepts = λ a b c. absurd (false≢true (sym e ∙ a));
+  refusals = inr (inl refl);
+  twelve = λ q. e;
+  thirteen = λ (q : _≡_ {A = ℕ} 12 13). absurd (omega arith);
+  fourteen = λ (q : _≡_ {A = ℕ} 12 14). absurd (omega arith);
+}
+answered-by r lent true false z e f g = record {
+  accepted = λ (q : _≡_ {A = ℕ} 13 0). absurd (omega arith);
+  accepts = λ a b c. absurd (false≢true (sym f ∙ b));
+  refusals = inr (inr (inl refl));
+  twelve = λ (q : _≡_ {A = ℕ} 13 12). absurd (omega arith);
+  thirteen = λ q. f;
+  fourteen = λ (q : _≡_ {A = ℕ} 13 14). absurd (omega arith);
+}
+answered-by r lent true true false e f g = record {
+  accepted = λ (q : _≡_ {A = ℕ} 14 0). absurd (omega arith);
+  accepts = λ a b c. absurd (false≢true (sym g ∙ le-leb _ _ c));
+  refusals = inr (inr (inr (inl refl)));
+  twelve = λ (q : _≡_ {A = ℕ} 14 12). absurd (omega arith);
+  thirteen = λ (q : _≡_ {A = ℕ} 14 13). absurd (omega arith);
+  fourteen = λ q. (e, f, leb-false (length (bytesOf r)) (length lent) g);
+}
+answered-by r lent true true true e f g = record {
+  accepted = λ q. (e, f, take-append-seam (bytesOf r) (drop (length (bytesOf r)) lent));
+  accepts = λ a b c. refl;
+  refusals = inl refl;
+  twelve = λ (q : _≡_ {A = ℕ} 0 12). absurd (omega arith);
+  thirteen = λ (q : _≡_ {A = ℕ} 0 13). absurd (omega arith);
+  fourteen = λ (q : _≡_ {A = ℕ} 0 14). absurd (omega arith);
+}
 
-  is-0 : hasStarted (r .count) (r .zones) ≡ true → noRequests (r .count) (r .channels) ≡ true
-      → leb (length (recordingBytes (r .count) (snapshotOf r))) (length lent) ≡ true
-      → recordCall r lent ≡ writtenOutput lent (recordingBytes (r .count) (snapshotOf r))
-  unfolding recordCall
-  is-0 e f g = rw (replayed, e, f, g)
+record-answers : (r : Run) (lent : List ℕ) → isReplayed r ≡ true → Answers r lent (recordCall r lent)
+unfolding recordCall
+record-answers r lent e =
+    rw e (answered-by r lent (hasStarted (r .count) (r .zones)) (noRequests (r .count) (r .channels)) (leb (length (bytesOf r)) (length lent)) refl refl refl)
 
-  pub record-answers : Answers r lent (recordCall r lent .answer) (recordCall r lent .bytes)
-  record-answers = go (hasStarted (r .count) (r .zones)) refl (noRequests (r .count) (r .channels)) refl
-      (leb (length (recordingBytes (r .count) (snapshotOf r))) (length lent)) refl
-    where
-      not-both : {b : Bool} {A : Type 0} → b ≡ false → b ≡ true → A
-      not-both e f = absurd (false≢true (sym e ∙ f))
-
-      go : (x : Bool) → hasStarted (r .count) (r .zones) ≡ x → (y : Bool) → noRequests (r .count) (r .channels) ≡ y
-          → (z : Bool) → leb (length (recordingBytes (r .count) (snapshotOf r))) (length lent) ≡ z
-          → Answers r lent (recordCall r lent .answer) (recordCall r lent .bytes)
-      go false e y f z g = refused-answers 12 (λ (q : 12 ≡ 0). omega arith) (inr (inl refl)) (λ a b c. not-both e a) (is-12 e)
-      go true e false f z g = refused-answers 13 (λ (q : 13 ≡ 0). omega arith) (inr (inr (inl refl))) (λ a b c. not-both f b) (is-13 e f)
-      go true e true f false g =
-          refused-answers 14 (λ (q : 14 ≡ 0). omega arith) (inr (inr (inr (inl refl)))) (λ a b c. not-both g (le-leb _ _ c)) (is-14 e f g)
-      go true e true f true g =
-          subst (λ (o : Output). Answers r lent (o .answer) (o .bytes)) (sym (is-0 e f g))
-          (record { accepted = λ z. (e, f, refl); accepts = λ a b c. refl; refusals = inl refl })
+-- No zone is permanent where none of the site is.
+none-permanent : (r : Run) → hasStarted (r .count) (r .zones) ≡ false → (z : ℕ) → isPermanent (siteOf r .zone z .checkpoint) ≡ false
+unfolding hasStarted
+none-permanent r e z = go (ltb z (r .count)) refl
+  where
+    go : (b : Bool) → ltb z (r .count) ≡ b → isPermanent (cond b (zoneAt (r .zones) z) (opened z 0) .checkpoint) ≡ false
+    go true h = any-none (r .count) (λ i. isPermanent (zoneAt (r .zones) i .checkpoint)) e z (ltb-true z (r .count) h)
+    go false h = refl
 
 -- Demand 3 of a run whose journal replays to it, in the run's own terms.
 module _ (r : Run) (w : WholeRun r) (e : isReplayed r ≡ true) (lent : List ℕ) where
-  answers : Answers r lent (recordCall r lent .answer) (recordCall r lent .bytes)
+  answers : Answers r lent (recordCall r lent)
   answers = record-answers r lent e
 
-  replayed-demand : Demand (stocksOf (stocksAt r)) (callsIn (wordsAt r)) r lent (recordCall r lent .answer) (recordCall r lent .bytes)
+  replayed-demand : Demand (r .count) (stocksOf (stocksAt r)) (callsIn (wordsAt r)) r lent (recordCall r lent .answer) (recordCall r lent .bytes)
   replayed-demand = record {
     only-complete = λ z. let a = answers .accepted z in complete-if r w e (a .0) (a .1);
     if-complete = λ c n. let h = if-complete r w e c in answers .accepts (h .0) (h .1) n;
     cut = λ z. let a = answers .accepted z in
-        subst (λ (bytes : List ℕ). Cut (stocksOf (stocksAt r)) (callsIn (wordsAt r)) (shownIn bytes)) (sym (a .2))
-        (recording-cuts r w e (a .0) (a .1) (drop (length (recordingBytes (r .count) (snapshotOf r))) lent));
+        subst (λ (bytes : List ℕ). Cut (stocksOf (stocksAt r)) (callsIn (wordsAt r)) (shownIn bytes)) (append-nil (bytesOf r) ∙ sym (a .2))
+        (recording-cuts r w e (a .0) (a .1) []);
     ends = ap present (sym (site-is r w e));
     refusals = answers .refusals;
+    not-started = λ q z. ap (λ (s : Site). isPermanent (s .zone z .checkpoint)) (sym (site-is r w e)) ∙ none-permanent r (answers .twelve q) z;
+    not-complete = λ q c. false≢true (sym (answers .thirteen q) ∙ if-complete r w e c .1);
+    too-few = λ q. let a = answers .fourteen q in (complete-if r w e (a .0) (a .1), a .2);
     enough = recording-most r w e;
   }
 
 -- Demand 3 of a true run, in the terms of the list of calls.
 module _ (count : ℕ) (stocks : List ℕ) (opened : openCall count stocks .refusal ≡ 0) (cs : List SiteCall) (typed : AllTyped cs) where
+  count-is : after cs (openCall count stocks .run) .count ≡ count
+  count-is = true-tells count stocks cs opened .count
+
   stocks-are : stocksAt (after cs (openCall count stocks .run)) ≡ stocks
   stocks-are =
       let t = true-tells count stocks cs opened in
@@ -131,11 +153,13 @@ module _ (count : ℕ) (stocks : List ℕ) (opened : openCall count stocks .refu
   calls-are = ap callsIn (true-tells count stocks cs opened .records) ∙ calls-decoded cs (openCall count stocks .run) typed
 
   pub true-demand : (lent : List ℕ)
-      → Demand (stocksOf stocks) (acceptedCalls cs (openCall count stocks .run)) (after cs (openCall count stocks .run)) lent
+      → Demand count (stocksOf stocks) (acceptedCalls cs (openCall count stocks .run)) (after cs (openCall count stocks .run)) lent
       (recordCall (after cs (openCall count stocks .run)) lent .answer) (recordCall (after cs (openCall count stocks .run)) lent .bytes)
   true-demand lent =
       let r = after cs (openCall count stocks .run) in
       let w = after-whole cs (openCall count stocks .run) (open-whole count stocks) in
-      subst (λ (x : List ℕ). Demand (stocksOf x) (acceptedCalls cs (openCall count stocks .run)) r lent (recordCall r lent .answer) (recordCall r lent .bytes)) stocks-are
-      (subst (λ (x : List Call). Demand (stocksOf (stocksAt r)) x r lent (recordCall r lent .answer) (recordCall r lent .bytes)) calls-are
-      (replayed-demand r w (true-replayed count stocks cs opened typed) lent))
+      let o = recordCall r lent in
+      subst (λ (n : ℕ). Demand n (stocksOf stocks) (acceptedCalls cs (openCall count stocks .run)) r lent (o .answer) (o .bytes)) count-is
+      (subst (λ (x : List ℕ). Demand (r .count) (stocksOf x) (acceptedCalls cs (openCall count stocks .run)) r lent (o .answer) (o .bytes)) stocks-are
+      (subst (λ (x : List Call). Demand (r .count) (stocksOf (stocksAt r)) x r lent (o .answer) (o .bytes)) calls-are
+      (replayed-demand r w (true-replayed count stocks cs opened typed) lent)))
