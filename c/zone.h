@@ -3,11 +3,12 @@
  * A controller keeps one cut_zone, passes it to each call by value and stores the zone of the answer:
  *
  *     static cut_zone zone;
+ *     zone = zone_open(count, number, stock).zone;
  *     cut_step r = zone_send(zone, to, cars);
  *     zone = r.zone;
  *
- * refusal is 0, or the number of the first question that was answered no; then the zone comes back as it went in, and flag, to and
- * carried are 0. The calls have no state of their own, never block and never fail to return. Every value of every field may be passed.
+ * refusal is 0, or the number of the first question that was answered no; then a step's zone comes back as it went in, and flag, to
+ * and carried are 0. The calls have no state of their own, never block and never fail to return. Every value of every field may be passed.
  */
 #ifndef CUT_ZONE_H
 #define CUT_ZONE_H
@@ -21,7 +22,7 @@ typedef struct {
 } cut_saved;
 
 /* mark: 0 none, 1 provisional, 2 firm; above 2 the zone is not sound and every step answers 1. With mark 0 saved means nothing.
- * deps: the zones heard from; zone k is the bit of weight 2 to the power k - 1. */
+ * deps: the zone itself and the zones heard from; zone k is the bit of weight 2 to the power k - 1. */
 typedef struct {
     uint8_t number;
     uint8_t count;

@@ -1,2 +1,4 @@
 pub mod Laws
 pub mod Within
+pub mod Enough
+pub mod Overlong

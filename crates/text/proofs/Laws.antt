@@ -31,7 +31,7 @@ abbrev pub spaced : List ℕ → List ℕ
 spaced [] = []
 spaced (b ∷ bs) = digitCode (b / 16) ∷ digitCode (b % 16) ∷ space ∷ spaced bs
 
-text-length : (bs : List ℕ) → length (bytesText bs) ≡ 3 * length bs - 1 + 1
+pub text-length : (bs : List ℕ) → length (bytesText bs) ≡ 3 * length bs - 1 + 1
 text-length [] = refl
 text-length (b ∷ []) = refl
 text-length (b ∷ c ∷ bs) = let q = text-length (c ∷ bs) in omega arith
@@ -86,7 +86,7 @@ unfolding decimalText
 three-digits n h k = rw (le-ltb n 10 h, le-ltb n 100 k)
 
 -- The parts of a refusal's text, stored one after another.
-refused-length : (n : ℕ) → length (refusedText n) ≡ 8 + length (decimalText n) + 1
+pub refused-length : (n : ℕ) → length (refusedText n) ≡ 8 + length (decimalText n) + 1
 refused-length n = omega (arith, length-append (decimalText n) (lineFeed ∷ []))
 
 pub refused-printed : (n : ℕ) (lent word decimal : List ℕ) (size : ℕ) → size ≡ length (decimalText n) → 8 + size < length lent

@@ -1,0 +1,317 @@
+-- Zone parts on a maker's own channels record as consistently as the site does: what they do is what the rules say, if a refused item
+-- stays on its channel and at most one start is accepted. Assumes nothing.
+use mathlib.Core.Path.{_≡_, refl, sym, _∙_, ap, subst}
+use mathlib.Core.Bool.{Bool, true, false, cond, _&&_, not, and-false, false≢true}
+use mathlib.Core.List.{List, [], _∷_, tail}
+use mathlib.Core.Option.{Option, none, some}
+use Prim.Native.Nat.{ℕ, suc, _+_, _≤_}
+use native.Mathlib.Omega.{arith}
+use lib.Dec.{eqb, leb}
+use borrow.Author.Tests.{eqb-true, leb-true}
+use Rattle.rules.specs.Change.{on, join, cons-if}
+use Rattle.rules.specs.Cut.{May, Allowed, run, Complete, Cut, snapshot}
+use Rattle.rules.specs.Limits.{mostCars}
+use Rattle.rules.specs.Questions.{Question, question, ask, index}
+use Rattle.rules.specs.Sets.{has, nobody, within}
+use Rattle.rules.specs.Site.{Item, message, request, Site, sendS, popS, askS, receiveS, turnS, requestS, startS, takeS, Call, send, receive, start, stepS, openS}
+use Rattle.rules.specs.Zone.{isMarked, isPermanent, opened, sent, received, started, requested, asked, carried}
+use Rattle.rules.specs.declared.Checkpoint.{Checkpoint}
+use Rattle.rules.specs.declared.Checkpoint.the-variants.{None, Mutable, Permanent}
+use Rattle.rules.specs.declared.Local.{Local}
+use Rattle.rules.proofs.Guarded.{on-true, on-false, on-map-at, on-same-at}
+use Rattle.rules.proofs.Lists.{All}
+use Rattle.rules.proofs.SetLaws.{has-nobody}
+use Rattle.rules.proofs.History.{History, openH, initiatorAfter, stepH}
+use Rattle.rules.proofs.Kept.{Fresh, fresh-open, fresh-call}
+use Rattle.rules.proofs.Consistency.{consistent}
+use Rattle.local.specs.Asked.{askedAs, requestedBy, startedBy}
+use Rattle.zone.specs.Zone.{localOf, withLocal, isSound, isOther, hasRoom, refused, accepted, asking, sendStep, receiveStep, requestStep, startStep}
+use Rattle.zone.specs.declared.Step.{Step}
+use Rattle.zone.specs.declared.Zone.{Zone}
+use Rattle.network.specs.Network.{Network, openNetwork, takeStep, answer, isAccepted, asks, popped, stored, storedIf, made, after, acceptedCalls, starts, siteOf, shownBy}
+
+-- A step that is accepted has passed all its questions, and is what they guard.
+passed : (qs : List Question) (z : Zone) (x : Step) → All (λ q. eqb (q .number) 0 ≡ false) qs → eqb (ask qs (refused z) x .refusal) 0 ≡ true
+    → (ask qs (refused z) x ≡ x) × All (λ q. q .yes ≡ true) qs
+passed [] z x n e = (refl, tt)
+passed (q ∷ qs) z x n e = go (passed qs z x (n .1)) (q .yes) refl e
+  where
+    go : (eqb (ask qs (refused z) x .refusal) 0 ≡ true → (ask qs (refused z) x ≡ x) × All (λ q. q .yes ≡ true) qs)
+        → (p : Bool) → q .yes ≡ p → eqb (cond p (ask qs (refused z) x) (refused z (q .number)) .refusal) 0 ≡ true
+        → (cond p (ask qs (refused z) x) (refused z (q .number)) ≡ x) × All (λ q. q .yes ≡ true) (q ∷ qs)
+    go ih true y e = let r = ih e in (r .0, (y, r .1))
+    go ih false y e = absurd (false≢true (sym (n .0) ∙ e))
+
+send-step : (z : Zone) (to cars : ℕ) → eqb (sendStep z to cars .refusal) 0 ≡ true
+    → (sendStep z to cars ≡ accepted (withLocal z (sent cars (localOf z))) (isMarked (z .checkpoint)) nobody nobody) × (cars ≤ z .stock)
+unfolding sendStep
+send-step z to cars e =
+    let r = passed
+    (question 1 (isSound z) ∷ question 5 (isOther z to) ∷ question 6 (hasRoom z) ∷ question 7 (leb cars (z .stock)) ∷ [])
+    z (accepted (withLocal z (sent cars (localOf z))) (isMarked (z .checkpoint)) nobody nobody) (refl, (refl, (refl, (refl, tt)))) e in
+    (r .0, leb-true cars (z .stock) (r .1 .1 .1 .1 .0))
+
+receive-step : (z : Zone) (from cars : ℕ) (flag : Bool) → eqb (receiveStep z from cars flag .refusal) 0 ≡ true
+    → receiveStep z from cars flag ≡ accepted (withLocal z (received (index from) cars flag (localOf z))) false nobody nobody
+unfolding receiveStep
+receive-step z from cars flag e = passed
+    (question 1 (isSound z) ∷ question 5 (isOther z from) ∷ question 6 (hasRoom z) ∷ question 20 (leb (z .stock + cars) mostCars) ∷ [])
+    z (accepted (withLocal z (received (index from) cars flag (localOf z))) false nobody nobody) (refl, (refl, (refl, (refl, tt)))) e .0
+
+request-step : (z : Zone) (set : ℕ) → eqb (requestStep z set .refusal) 0 ≡ true
+    → requestStep z set ≡ asking z (requestedBy (index (z .number)) set (localOf z))
+unfolding requestStep
+request-step z set e = passed (question 1 (isSound z) ∷ question 5 (within set (z .count)) ∷ []) z
+    (asking z (requestedBy (index (z .number)) set (localOf z))) (refl, (refl, tt)) e .0
+
+start-step : (z : Zone) → eqb (startStep z .refusal) 0 ≡ true → startStep z ≡ asking z (startedBy (index (z .number)) (localOf z))
+unfolding startStep
+start-step z e = passed (question 1 (isSound z) ∷ question 11 (not (isMarked (z .checkpoint))) ∷ []) z
+    (asking z (startedBy (index (z .number)) (localOf z))) (refl, (refl, tt)) e .0
+
+site≡ : (s t : Site) → ((k : ℕ) → s .zone k ≡ t .zone k) → ((i j : ℕ) → s .channel i j ≡ t .channel i j) → s ≡ t
+site≡ s t p q = λ x. record { zone = λ k. p k x; channel = λ i j. q i j x }
+
+-- The zone at index k has the number k + 1.
+abbrev pub Numbered : Network → Type 0
+Numbered net = (k : ℕ) → net .zone k .number ≡ k + 1
+
+index-of : (k n : ℕ) → n ≡ k + 1 → index n ≡ k
+index-of k n e = omega arith
+
+-- Zone a is stored; the rules change it by g.
+changed : (net : Network) (a : ℕ) (z : Zone) (g : Local → Local) → localOf z ≡ g (localOf (net .zone a)) → (k : ℕ)
+    → localOf (on (eqb k a) (λ y. z) (net .zone k)) ≡ on (eqb k a) g (localOf (net .zone k))
+changed net a z g e k = on-map-at localOf (eqb k a) (λ y. z) g (net .zone k)
+    (λ q. e ∙ ap (λ (i : ℕ). g (localOf (net .zone i))) (sym (eqb-true k a q)))
+
+-- Where nobody is asked, no channel changes.
+unasked : (b i j set : ℕ) (l : List Item) → on (eqb i b && has nobody j) (join (request set)) l ≡ l
+unasked b i j set l = rw (has-nobody j, and-false (eqb i b))
+
+-- Where nobody is asked, what requests would carry does not matter.
+asked-channel : (b i j to set : ℕ) (l : List Item)
+    → on (eqb i b && has to j) (join (request (cond (eqb to 0) 0 set))) l ≡ on (eqb i b && has to j) (join (request set)) l
+asked-channel b i j to set l = go (eqb to 0) refl
+  where
+    go : (p : Bool) → eqb to 0 ≡ p
+        → on (eqb i b && has to j) (join (request (cond p 0 set))) l ≡ on (eqb i b && has to j) (join (request set)) l
+    go true e = rw (eqb-true to 0 e, has-nobody j, and-false (eqb i b))
+    go false e = refl
+
+-- A message is sent.
+sent-site : (net : Network) (a b cars : ℕ) → eqb (sendStep (net .zone a) (b + 1) cars .refusal) 0 ≡ true
+    → siteOf (stored (send a b cars) (sendStep (net .zone a) (b + 1) cars) net) ≡ sendS a b cars (siteOf net)
+sent-site net a b cars e =
+    ap (λ (x : Step). siteOf (stored (send a b cars) x net)) (send-step (net .zone a) (b + 1) cars e .0)
+    ∙ site≡ _ _ (changed net a _ (sent cars) refl) (λ i j. refl)
+
+-- A message is received.
+received-site : (net : Network) (a b cars : ℕ) (flag : Bool) → eqb (receiveStep (net .zone b) (a + 1) cars flag .refusal) 0 ≡ true
+    → siteOf (stored (receive a b) (receiveStep (net .zone b) (a + 1) cars flag) net) ≡ receiveS a b cars flag (siteOf net)
+received-site net a b cars flag e =
+    ap (λ (x : Step). siteOf (stored (receive a b) x net)) (receive-step (net .zone b) (a + 1) cars flag e)
+    ∙ site≡ _ _
+    (changed net b _ (received a cars flag)
+    (ap (λ (k : ℕ). received k cars flag (localOf (net .zone b))) (index-of a (a + 1) refl)))
+    (λ i j. unasked b i j nobody (on (eqb i a && eqb j b) tail (net .channel i j)))
+
+-- A zone takes a permanent checkpoint ("turns firm") by the change g, and asks.
+asking-site : (net : Network) (b set : ℕ) (g : Local → Local) → net .zone b .number ≡ b + 1
+    → siteOf (asks b (asking (net .zone b)
+    (askedAs (g (localOf (net .zone b))) (asked (index (net .zone b .number)) set (localOf (net .zone b))) (carried set (localOf (net .zone b))))) net)
+    ≡ askS b g (asked b set (localOf (net .zone b))) (carried set (localOf (net .zone b))) (siteOf net)
+asking-site net b set g e =
+    ap (λ (k : ℕ). siteOf (asks b (asking (net .zone b)
+    (askedAs (g (localOf (net .zone b))) (asked k set (localOf (net .zone b))) (carried set (localOf (net .zone b))))) net))
+    (index-of b (net .zone b .number) e)
+    ∙ site≡ _ _ (changed net b _ g refl)
+    (λ i j. asked-channel b i j (asked b set (localOf (net .zone b))) (carried set (localOf (net .zone b))) (net .channel i j))
+
+-- A request is received: "a firm zone drops it".
+requested-site : (net : Network) (a b set : ℕ) → Numbered net → eqb (requestStep (net .zone b) set .refusal) 0 ≡ true
+    → siteOf (stored (receive a b) (requestStep (net .zone b) set) net) ≡ requestS a b set (siteOf net)
+unfolding requestedBy
+requested-site net a b set num e =
+    ap (λ (x : Step). siteOf (stored (receive a b) x net)) (request-step (net .zone b) set e)
+    ∙ go (isPermanent (net .zone b .checkpoint))
+  where
+    go : (p : Bool)
+        → siteOf (asks b (asking (net .zone b)
+        (cond p (askedAs (localOf (net .zone b)) nobody nobody)
+        (askedAs (requested (localOf (net .zone b))) (asked (index (net .zone b .number)) set (localOf (net .zone b)))
+        (carried set (localOf (net .zone b))))))
+        (popped a b net))
+        ≡ on (not p) (turnS b set) (popS a b (siteOf net))
+    go true = site≡ _ _ (λ k. changed net b _ (λ y. y) refl k ∙ idle (eqb k b) (localOf (net .zone k)))
+        (λ i j. unasked b i j nobody (on (eqb i a && eqb j b) tail (net .channel i j)))
+      where
+        idle : (p : Bool) (y : Local) → on p (λ y. y) y ≡ y
+        idle true y = refl
+        idle false y = refl
+    go false = asking-site (popped a b net) b set requested (num b)
+
+-- A recording is started.
+started-site : (net : Network) (a : ℕ) → Numbered net → eqb (startStep (net .zone a) .refusal) 0 ≡ true
+    → siteOf (stored (start a) (startStep (net .zone a)) net) ≡ startS a (siteOf net)
+unfolding startedBy
+started-site net a num e =
+    ap (λ (x : Step). siteOf (stored (start a) x net)) (start-step (net .zone a) e) ∙ asking-site net a nobody started (num a)
+
+-- A call that is not accepted changes nothing.
+pub refused-kept : (c : Call) (net : Network) → isAccepted (answer c net) ≡ false → made c net ≡ net
+refused-kept c net = go (answer c net)
+  where
+    go : (o : Option Step) → isAccepted o ≡ false → storedIf c o net ≡ net
+    go none e = refl
+    go (some x) e = on-false (eqb (x .refusal) 0) (stored c x) net e
+
+-- An accepted call does to the network what the rules say of the site that it stands for.
+pub refine : (c : Call) (net : Network) → Numbered net → isAccepted (answer c net) ≡ true → siteOf (made c net) ≡ stepS c (siteOf net)
+refine (send a b cars) net num e =
+    let x = sendStep (net .zone a) (b + 1) cars in
+    ap siteOf (on-true (eqb (x .refusal) 0) (stored (send a b cars) x) net e) ∙ sent-site net a b cars e
+refine (receive a b) net num e = go (net .channel a b) e
+  where
+    go : (l : List Item) → isAccepted (takeStep (a + 1) l (net .zone b)) ≡ true
+        → siteOf (storedIf (receive a b) (takeStep (a + 1) l (net .zone b)) net) ≡ takeS a b l (siteOf net)
+    go [] e = absurd (false≢true e)
+    go (message cars flag ∷ l) e =
+        let x = receiveStep (net .zone b) (a + 1) cars flag in
+        ap siteOf (on-true (eqb (x .refusal) 0) (stored (receive a b) x) net e) ∙ received-site net a b cars flag e
+    go (request set ∷ l) e =
+        let x = requestStep (net .zone b) set in
+        ap siteOf (on-true (eqb (x .refusal) 0) (stored (receive a b) x) net e) ∙ requested-site net a b set num e
+refine (start a) net num e =
+    let x = startStep (net .zone a) in
+    ap siteOf (on-true (eqb (x .refusal) 0) (stored (start a) x) net e) ∙ started-site net a num e
+
+-- What an accepted call shows: the stock covers the cars; the channel holds an item. A start shows only of its own
+-- zone that it is unmarked, so that nothing is claimed of it here.
+abbrev pub Shows : Call → Network → Type 0
+Shows (send a b cars) net = cars ≤ net .zone a .stock
+Shows (receive a b) net = net .channel a b ≡ [] → ⊥
+Shows (start a) net = Unit {0}
+
+pub shows : (c : Call) (net : Network) → isAccepted (answer c net) ≡ true → Shows c net
+shows (send a b cars) net e = send-step (net .zone a) (b + 1) cars e .1
+shows (receive a b) net e = λ q. false≢true (ap (λ (l : List Item). isAccepted (takeStep (a + 1) l (net .zone b))) (sym q) ∙ e)
+shows (start a) net e = tt
+
+-- What no step changes of a zone, such as its number and the count, no call changes.
+module _ (f : Zone → ℕ) (fixed : (z : Zone) (l : Local) → f (withLocal z l) ≡ f z)
+    (g : ℕ → ℕ) (net : Network) (now : (k : ℕ) → f (net .zone k) ≡ g k) where
+  zone-kept : (a : ℕ) (x : Step) (l : Local) (e : x .zone ≡ withLocal (net .zone a) l) (k : ℕ)
+      → f (on (eqb k a) (λ y. x .zone) (net .zone k)) ≡ g k
+  zone-kept a x l e k =
+      on-same-at f (eqb k a) (λ y. x .zone) (net .zone k)
+      (λ q. ap f e ∙ fixed (net .zone a) l ∙ ap (λ (i : ℕ). f (net .zone i)) (sym (eqb-true k a q)))
+      ∙ now k
+
+  kept-if : (c : Call) (x : Step) → (eqb (x .refusal) 0 ≡ true → (k : ℕ) → f (stored c x net .zone k) ≡ g k)
+      → (k : ℕ) → f (storedIf c (some x) net .zone k) ≡ g k
+  kept-if c x h = go (eqb (x .refusal) 0) refl
+    where
+      go : (p : Bool) → eqb (x .refusal) 0 ≡ p → (k : ℕ) → f (on p (stored c x) net .zone k) ≡ g k
+      go true e = h e
+      go false e = now
+
+  pub call-keeps : (c : Call) (k : ℕ) → f (made c net .zone k) ≡ g k
+  call-keeps (send a b cars) =
+      let x = sendStep (net .zone a) (b + 1) cars in
+      kept-if (send a b cars) x
+      (λ e. zone-kept a x _ (ap (λ (x : Step). x .zone) (send-step (net .zone a) (b + 1) cars e .0)))
+  call-keeps (receive a b) = go (net .channel a b)
+    where
+      go : (l : List Item) (k : ℕ) → f (storedIf (receive a b) (takeStep (a + 1) l (net .zone b)) net .zone k) ≡ g k
+      go [] = now
+      go (message cars flag ∷ l) =
+          let x = receiveStep (net .zone b) (a + 1) cars flag in
+          kept-if (receive a b) x
+          (λ e. zone-kept b x _ (ap (λ (x : Step). x .zone) (receive-step (net .zone b) (a + 1) cars flag e)))
+      go (request set ∷ l) =
+          let x = requestStep (net .zone b) set in
+          kept-if (receive a b) x (λ e. zone-kept b x _ (ap (λ (x : Step). x .zone) (request-step (net .zone b) set e)))
+  call-keeps (start a) =
+      let x = startStep (net .zone a) in
+      kept-if (start a) x (λ e. zone-kept a x _ (ap (λ (x : Step). x .zone) (start-step (net .zone a) e)))
+
+pub numbered : (net : Network) → Numbered net → (c : Call) → Numbered (made c net)
+numbered net num c = call-keeps (λ z. z .number) (λ z l. refl) (λ k. k + 1) net num c
+
+-- The number of starts accepted before.
+abbrev begun : Option ℕ → ℕ
+begun none = 0
+begun (some a) = 1
+
+unmarked-mutable : (k : Checkpoint) → isMarked k ≡ false → isPermanent k ≡ false
+unmarked-mutable None e = refl
+unmarked-mutable (Mutable s) e = refl
+unmarked-mutable (Permanent s) e = e
+
+-- An accepted call is one that the rules allow, where no start is a second one.
+allowed-call : (c : Call) (rest : List Call) (net : Network) (h : History) → Fresh h → siteOf net ≡ h .now
+    → begun (h .initiator) + starts (c ∷ rest) ≤ 1 → Shows c net → May c (h .now)
+allowed-call (send a b cars) rest net h f e one w = subst (May (send a b cars)) e w
+allowed-call (receive a b) rest net h f e one w = subst (May (receive a b)) e w
+allowed-call (start a) rest net h f e one w = go (h .initiator) refl one
+  where
+    go : (o : Option ℕ) → h .initiator ≡ o → begun o + suc (starts rest) ≤ 1 → May (start a) (h .now)
+    go none q one = λ z. unmarked-mutable (h .now .zone z .checkpoint) (f .unmarked q z)
+    go (some x) q one = absurd (omega arith)
+
+-- The starts that are left, after an accepted call.
+one-left : (c : Call) (rest : List Call) (o : Option ℕ) → begun o + starts (c ∷ rest) ≤ 1 → begun (initiatorAfter c o) + starts rest ≤ 1
+one-left (send a b cars) rest o one = one
+one-left (receive a b) rest o one = one
+one-left (start a) rest none one = omega arith
+one-left (start a) rest (some x) one = absurd (omega arith)
+
+-- The network follows the rules over its accepted calls.
+abbrev Follows : List Call → Network → Site → Type 0
+Follows cs net s = Allowed (acceptedCalls cs net) s × (siteOf (after cs net) ≡ run (acceptedCalls cs net) s)
+
+follows : (cs : List Call) (net : Network) (h : History) → Numbered net → Fresh h → siteOf net ≡ h .now
+    → begun (h .initiator) + starts (acceptedCalls cs net) ≤ 1 → Follows cs net (h .now)
+follows [] net h num f e one = (tt, e)
+follows (c ∷ cs) net h num f e one = go (λ t. follows cs (made c net) t (numbered net num c)) (isAccepted (answer c net)) refl one
+  where
+    go : ((t : History) → Fresh t → siteOf (made c net) ≡ t .now → begun (t .initiator) + starts (acceptedCalls cs (made c net)) ≤ 1
+        → Follows cs (made c net) (t .now))
+        → (p : Bool) → isAccepted (answer c net) ≡ p
+        → begun (h .initiator) + starts (cons-if p c (acceptedCalls cs (made c net))) ≤ 1
+        → Allowed (cons-if p c (acceptedCalls cs (made c net))) (h .now)
+        × (siteOf (after cs (made c net)) ≡ run (cons-if p c (acceptedCalls cs (made c net))) (h .now))
+    go ih true q one =
+        let may = allowed-call c (acceptedCalls cs (made c net)) net h f e one (shows c net q) in
+        let r = ih (stepH c h) (fresh-call c h f may) (refine c net num q ∙ ap (stepS c) e)
+        (one-left c (acceptedCalls cs (made c net)) (h .initiator) one) in
+        ((may, r .0), r .1)
+    go ih false q one = ih h f (ap siteOf (refused-kept c net q) ∙ e) one
+
+-- The opening is that of the rules.
+opening : (n : ℕ) (v : ℕ → ℕ) → siteOf (openNetwork n v) ≡ openS v
+opening n v = site≡ _ _ (λ k. ap (λ (i : ℕ). opened i (v k)) (index-of k (k + 1) refl)) (λ i j. refl)
+
+-- Whatever the zone count, the opening stocks and the calls: if at most one start was accepted, the accepted calls are such as the
+-- rules allow, and lead the rules to the zones and channels that the network has.
+pub network-follows : (n : ℕ) (v : ℕ → ℕ) (cs : List Call) → starts (acceptedCalls cs (openNetwork n v)) ≤ 1
+    → Allowed (acceptedCalls cs (openNetwork n v)) (openS v)
+    × (siteOf (after cs (openNetwork n v)) ≡ run (acceptedCalls cs (openNetwork n v)) (openS v))
+network-follows n v cs one = follows cs (openNetwork n v) (openH v) (λ k. refl) (fresh-open v) (opening n v) (omega arith)
+
+-- So, when the recording is complete, it is a consistent cut of the accepted calls: demand 3 over the maker's own channels.
+pub network-consistent : (n : ℕ) (v : ℕ → ℕ) (cs : List Call) → starts (acceptedCalls cs (openNetwork n v)) ≤ 1
+    → Complete (siteOf (after cs (openNetwork n v)))
+    → Cut v (acceptedCalls cs (openNetwork n v)) (snapshot v (acceptedCalls cs (openNetwork n v)))
+network-consistent n v cs one done =
+    let r = network-follows n v cs one in
+    consistent v (acceptedCalls cs (openNetwork n v)) (r .0) (subst Complete (r .1) done)
+
+-- The same of the recording that the network's own zones show.
+pub network-shows : (n : ℕ) (v : ℕ → ℕ) (cs : List Call) → starts (acceptedCalls cs (openNetwork n v)) ≤ 1
+    → Complete (siteOf (after cs (openNetwork n v)))
+    → Cut v (acceptedCalls cs (openNetwork n v)) (shownBy v (acceptedCalls cs (openNetwork n v)) (siteOf (after cs (openNetwork n v))))
+network-shows n v cs one done = subst
+    (λ (s : Site). Cut v (acceptedCalls cs (openNetwork n v)) (shownBy v (acceptedCalls cs (openNetwork n v)) s))
+    (sym (network-follows n v cs one .1)) (network-consistent n v cs one done)

@@ -1,0 +1,55 @@
+-- The text for a journal is told by its first 2,019 bytes: the bytes of input that the program reads are enough. Assumes nothing.
+use mathlib.Core.Path.{_≡_, refl, sym, _∙_, ap, ap₂}
+use mathlib.Core.Bool.{Bool, true, false, cond, _&&_}
+use mathlib.Core.List.{List}
+use Prim.Native.Nat.{ℕ, _+_, _*_, _<_, _≤_}
+use native.Mathlib.Omega.{arith}
+use borrow.Author.Tests.{leb-true, leb-false, le-leb, ne-eqb}
+use lib.Dec.{leb, eqb}
+use lib.ListN.{length, take}
+use lib.Seq.{length-take-le, take-all, getD-take}
+use Rattle.rules.proofs.Tests.{and-right}
+use Rattle.journal.specs.Bytes.{wordAt}
+use Rattle.journal.specs.Format.{editionIn, zonesIn, numberIn}
+use Rattle.journal.specs.Reading.{unread, zonesOf, recordsOf, isHeader, readCall}
+use Rattle.journal.specs.declared.Reading.{Reading}
+use Rattle.report.specs.Report.{reportText, readingText}
+
+-- What the reader answers of a journal with this header that is longer than any header tells.
+abbrev overlong : ℕ → Reading
+overlong header =
+    cond (eqb (editionIn header) 1) (cond (leb 2 (zonesIn header) && leb (numberIn header) 1000) (unread 0 17) (unread 0 16)) (unread 0 15)
+
+overlong-read : (bytes : List ℕ) → 2019 ≤ length bytes → readCall bytes ≡ overlong (wordAt bytes 0)
+unfolding readCall
+overlong-read bytes h = go (isHeader bytes) refl
+  where
+    go : (b : Bool) → isHeader bytes ≡ b → readCall bytes ≡ overlong (wordAt bytes 0)
+    go true e =
+        let n = leb-true (recordsOf bytes) 1000 (and-right (leb 2 (zonesOf bytes)) _ e) in
+        rw (
+          le-leb 2 (length bytes) (omega arith),
+          e,
+          ne-eqb (length bytes) (2 + 2 * zonesOf bytes + 2 * recordsOf bytes) (λ l. omega arith),
+        )
+    go false e = rw (le-leb 2 (length bytes) (omega arith), e)
+
+-- Its first bytes are refused with the same number.
+cut-read : (bytes : List ℕ) → 2019 < length bytes → readCall (take 2019 bytes) ≡ readCall bytes
+cut-read bytes h =
+    let w : wordAt (take 2019 bytes) 0 ≡ wordAt bytes 0 =
+    ap₂ (λ (x y : ℕ). x * 256 + y) (getD-take 2019 bytes 0 0 (omega arith)) (getD-take 2019 bytes 1 0 (omega arith)) in
+    overlong-read (take 2019 bytes) (omega (arith, length-take-le 2019 bytes (omega arith)))
+    ∙ ap overlong w
+    ∙ sym (overlong-read bytes (omega arith))
+
+pub read-overlong : (journal : List ℕ) → readCall (take 2019 journal) ≡ readCall journal
+read-overlong journal = go (leb (length journal) 2019) refl
+  where
+    go : (b : Bool) → leb (length journal) 2019 ≡ b → readCall (take 2019 journal) ≡ readCall journal
+    go true e = ap readCall (take-all 2019 journal (leb-true (length journal) 2019 e))
+    go false e = cut-read journal (leb-false (length journal) 2019 e)
+
+pub report-overlong : (journal : List ℕ) → reportText (take 2019 journal) ≡ reportText journal
+unfolding reportText
+report-overlong journal = ap readingText (read-overlong journal)
