@@ -2,3 +2,4 @@ pub mod Calls
 pub mod Recorded
 pub mod Three
 pub mod Premises
+pub mod Total

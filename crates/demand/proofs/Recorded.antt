@@ -33,7 +33,7 @@ use Rattle.recording.specs.Call.{callIn, callsIn, noRequests, snapshotOf, recor
 use Rattle.recording.specs.Layout.{recordingBytes}
 use Rattle.recording.specs.Shown.{shownIn}
 use Rattle.recording.proofs.Complete.{complete-if, if-complete}
-use Rattle.recording.proofs.Shows.{recording-cuts}
+use Rattle.recording.proofs.Shows.{recording-shows, recording-cuts}
 use Rattle.recording.proofs.Sized.{recording-most}
 use Rattle.recording.proofs.Zones.{stocksAt, wordsAt, site-is}
 use Rattle.demand.specs.Demand.{Demand}
@@ -139,6 +139,9 @@ module _ (r : Run) (w : WholeRun r) (e : isReplayed r ≡ true) (lent : List ℕ
     enough = recording-most r w e;
   }
 
+  replayed-shown : recordCall r lent .answer .refusal ≡ 0 → shownIn (take (recordCall r lent .answer .written) (recordCall r lent .bytes)) ≡ snapshotOf r
+  replayed-shown z = ap shownIn (answers .accepted z .2 ∙ sym (append-nil (bytesOf r))) ∙ recording-shows r w e []
+
 -- Demand 3 of a true run, in the terms of the list of calls.
 module _ (count : ℕ) (stocks : List ℕ) (opened : openCall count stocks .refusal ≡ 0) (cs : List SiteCall) (typed : AllTyped cs) where
   count-is : after cs (openCall count stocks .run) .count ≡ count
@@ -163,3 +166,12 @@ module _ (count : ℕ) (stocks : List ℕ) (opened : openCall count stocks .refu
       (subst (λ (x : List ℕ). Demand (r .count) (stocksOf x) (acceptedCalls cs (openCall count stocks .run)) r lent (o .answer) (o .bytes)) stocks-are
       (subst (λ (x : List Call). Demand (r .count) (stocksOf (stocksAt r)) x r lent (o .answer) (o .bytes)) calls-are
       (replayed-demand r w (true-replayed count stocks cs opened typed) lent)))
+
+  -- The bytes written show the recording of the rules.
+  pub true-shown : (lent : List ℕ) → recordCall (after cs (openCall count stocks .run)) lent .answer .refusal ≡ 0
+      → shownIn (take (recordCall (after cs (openCall count stocks .run)) lent .answer .written) (recordCall (after cs (openCall count stocks .run)) lent .bytes))
+      ≡ snapshot (stocksOf stocks) (acceptedCalls cs (openCall count stocks .run))
+  true-shown lent z =
+      let w = after-whole cs (openCall count stocks .run) (open-whole count stocks) in
+      replayed-shown (after cs (openCall count stocks .run)) w (true-replayed count stocks cs opened typed) lent z
+      ∙ ap₂ (λ (x : List ℕ) (y : List Call). snapshot (stocksOf x) y) stocks-are calls-are
