@@ -60,7 +60,7 @@ pub struct PlainStep {
 }
 
 // The mark of a kind that is 0, 1 or 2; a higher kind is asked about before.
-fn mark_of(kind: u8, saved: PlainSaved) -> Checkpoint
+pub fn mark_of(kind: u8, saved: PlainSaved) -> Checkpoint
     ensures { λ r. ⌜ r ≡ markOf kind saved ⌝ }
 {
     if kind == 0 {
@@ -93,7 +93,7 @@ fn zone_of(p: PlainZone) -> Zone
     }
 }
 
-fn kind_of(mark: Checkpoint) -> u8
+pub fn kind_of(mark: Checkpoint) -> u8
     ensures { λ r. ⌜ r ≡ kindOf mark ⌝ }
 {
     match mark {
@@ -103,7 +103,7 @@ fn kind_of(mark: Checkpoint) -> u8
     }
 }
 
-fn saved_of(mark: Checkpoint) -> PlainSaved
+pub fn saved_of(mark: Checkpoint) -> PlainSaved
     ensures { λ r. ⌜ r ≡ savedOf mark ⌝ }
 {
     match mark {

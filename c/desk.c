@@ -1,0 +1,78 @@
+/* A control room's desk: case A of the product's rules, from the opening to the recording's bytes, then the same from the journal alone.
+ * Prints the recording; exits 1 if a value is not as it must be. */
+#include <stdio.h>
+#include <stdlib.h>
+#include <string.h>
+
+#include "site.h"
+
+_Static_assert(sizeof(cut_run) == 4212, "a run has 4,212 bytes");
+
+static const uint8_t journal[] = {0x28, 0x09, 0x00, 0x0A, 0x00, 0x14, 0x00, 0x1E, 0x01, 0x04, 0x41, 0x00, 0x11,
+                                  0x05, 0x02, 0x02, 0x88, 0x00, 0x0A, 0x07, 0x4A, 0x00, 0x42, 0x00, 0x48, 0x00};
+static const uint8_t recording[] = {0x28, 0x01, 0x80, 0x02, 0x00, 0x04, 0x80, 0x01,
+                                    0x00, 0x18, 0x00, 0x00, 0x00, 0x1E, 0x02, 0x02};
+
+static cut_run run;
+
+static void must(int holds, const char *what)
+{
+    if (!holds) {
+        fprintf(stderr, "not as it must be: %s\n", what);
+        exit(1);
+    }
+}
+
+/* Stores the run of an answer, as a desk does after every call. */
+static void keep(cut_answer a, uint8_t refusal, const char *what)
+{
+    must(a.refusal == refusal, what);
+    run = a.run;
+}
+
+static void traffic(void)
+{
+    keep(site_send(run, 1, 2, 4), 0, "1 hands 4 cars to 2");
+    keep(site_receive(run, 1, 2), 0, "2 takes them");
+    keep(site_send(run, 3, 2, 5), 0, "3 hands 5 cars to 2");
+    keep(site_send(run, 1, 3, 2), 0, "1 hands 2 cars to 3");
+    keep(site_start(run, 2), 0, "2 starts");
+    keep(site_start(run, 1), 11, "a second start is refused");
+    keep(site_send(run, 2, 3, 7), 0, "2 hands 7 cars to 3");
+    keep(site_receive(run, 2, 3), 0, "3 takes them");
+    keep(site_receive(run, 1, 3), 0, "3 takes the 2 cars");
+}
+
+int main(void)
+{
+    const uint16_t stocks[] = {10, 20, 30};
+    uint8_t bytes[CUT_RECORDING_BYTES];
+    keep(site_open(9, stocks, 3), 2, "9 zones are refused");
+    keep(site_open(3, stocks, 3), 0, "the site opens");
+    must(site_record(run, bytes, sizeof bytes).refusal == 12, "nothing was started");
+    traffic();
+    must(site_record(run, bytes, sizeof bytes).refusal == 13, "a request is under way");
+    keep(site_receive(run, 2, 1), 0, "1 takes the request");
+
+    cut_written w = journal_write(run, bytes, sizeof bytes);
+    must(w.refusal == 0 && w.written == sizeof journal, "the journal is written");
+    must(memcmp(bytes, journal, sizeof journal) == 0, "the journal is that of case A");
+    w = site_record(run, bytes, sizeof bytes);
+    must(w.refusal == 0 && w.written == sizeof recording, "the recording is written");
+    must(memcmp(bytes, recording, sizeof recording) == 0, "the recording is that of case A");
+
+    memset(bytes, 0, sizeof bytes);
+    w = journal_record(journal, sizeof journal, bytes, sizeof bytes);
+    must(w.refusal == 0 && w.written == sizeof recording, "the journal's recording is written");
+    must(memcmp(bytes, recording, sizeof recording) == 0, "it is the same");
+    must(journal_record(journal, sizeof journal - 1, bytes, sizeof bytes).refusal == 17, "a cut journal is refused");
+
+    cut_run unsound = run;
+    unsound.zones[7].mark = 3;
+    cut_answer a = site_send(unsound, 1, 2, 1);
+    must(a.refusal == 1 && a.run.zones[7].mark == 3, "a mark above 2 is refused as it came");
+    for (size_t i = 0; i < w.written; i++)
+        printf(i == 0 ? "%02X" : " %02X", bytes[i]);
+    printf("\n");
+    return 0;
+}

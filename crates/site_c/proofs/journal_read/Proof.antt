@@ -1,0 +1,16 @@
+-- `site_c::journal_read` meets its contract. Assumes nothing.
+use borrow.Author.Needs.{needs}
+use Rattle.site_c.proofs.journal_read.Statement.{statement}
+use Rattle.site_c.proofs.journal_read.Tie as tie
+
+read-requires : tie.Need-read-requires
+read-requires c κs = search needs
+
+plain-run-requires : tie.Need-plain-run-requires
+plain-run-requires c κs = search needs
+
+returns : tie.Need-returns
+returns c = rw (c .plain-run .ensures, c .before .before .read .ensures)
+
+pub journal-read-spec : {M : Type 1} → statement M
+journal-read-spec = tie.close (tie.spec read-requires plain-run-requires returns)

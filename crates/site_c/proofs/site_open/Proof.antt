@@ -1,0 +1,16 @@
+-- `site_c::site_open` meets its contract. Assumes nothing.
+use borrow.Author.Needs.{needs}
+use Rattle.site_c.proofs.site_open.Statement.{statement}
+use Rattle.site_c.proofs.site_open.Tie as tie
+
+open-requires : tie.Need-open-requires
+open-requires c κs = search needs
+
+plain-run-requires : tie.Need-plain-run-requires
+plain-run-requires c κs = search needs
+
+returns : tie.Need-returns
+returns c = rw (c .plain-run .ensures, c .before .before .«open» .ensures)
+
+pub site-open-spec : {M : Type 1} → statement M
+site-open-spec = tie.close (tie.spec open-requires plain-run-requires returns)

@@ -1,0 +1,125 @@
+-- The site's calls over a plain struct: each is the site's call between two conversions.
+use mathlib.Core.Bool.{Bool, cond}
+use mathlib.Core.List.{List}
+use Prim.Native.Nat.{ℕ}
+use lib.Dec.{leb, eqb}
+use lib.ListN.{getD}
+use Rattle.rules.specs.Below.{allBelow, listBelow}
+use Rattle.rules.specs.Limits.{mostZones}
+use Rattle.rules.specs.declared.Local.{Local}
+use Rattle.channel.specs.Channels.{channelsAs}
+use Rattle.run.specs.Calls.{openCall, sendCall, receiveCall, startCall}
+use Rattle.run.specs.State.{runAs, zoneAt}
+use Rattle.run.specs.declared.Answer.{Answer}
+use Rattle.run.specs.declared.Run.{Run}
+use Rattle.journal.specs.Reading.{readCall}
+use Rattle.journal.specs.Writing.{Output, writeCall}
+use Rattle.journal.specs.declared.Written.{Written}
+use Rattle.recording.specs.Call.{recordCall}
+use Rattle.zone_c.specs.Plain.{markOf, kindOf, savedOf}
+use Rattle.site_c.specs.declared.PlainAnswer.{PlainAnswer}
+use Rattle.site_c.specs.declared.PlainLocal.{PlainLocal}
+use Rattle.site_c.specs.declared.PlainReading.{PlainReading}
+use Rattle.site_c.specs.declared.PlainRun.{PlainRun}
+use Rattle.site_c.specs.declared.PlainWritten.{PlainWritten}
+
+abbrev pub localOf : PlainLocal → Local
+localOf p = record { stock = p .stock; deps = p .deps; events = p .events; checkpoint = markOf (p .mark) (p .saved) }
+
+abbrev pub plainLocal : Local → PlainLocal
+plainLocal z = record {
+  stock = z .stock;
+  events = z .events;
+  deps = z .deps;
+  mark = kindOf (z .checkpoint);
+  saved = savedOf (z .checkpoint);
+}
+
+-- The value that a read behind the end of the zones would give.
+abbrev pub noPlain : PlainLocal
+noPlain = record { stock = 0; events = 0; deps = 0; mark = 0; saved = record { stock = 0; events = 0 } }
+
+abbrev pub plainAt : List PlainLocal → ℕ → PlainLocal
+plainAt zones i = getD zones i noPlain
+
+unfoldable pub localsOf : List PlainLocal → List Local
+localsOf zones = listBelow mostZones (λ i. localOf (plainAt zones i))
+
+unfoldable pub plainLocals : List Local → List PlainLocal
+plainLocals zones = listBelow mostZones (λ i. plainLocal (zoneAt zones i))
+
+-- Is every mark kind 0, 1 or 2, at all eight places?
+unfoldable pub areKinds : List PlainLocal → Bool
+areKinds zones = allBelow mostZones (λ i. leb (plainAt zones i .mark) 2)
+
+abbrev pub runOf : PlainRun → Run
+runOf p = runAs (p .count) (p .records) (localsOf (p .zones)) (p .opening) (channelsAs (p .items) (p .lens)) (p .journal)
+
+abbrev pub plainRun : Run → PlainRun
+plainRun r = record {
+  count = r .count;
+  records = r .records;
+  zones = plainLocals (r .zones);
+  opening = r .opening;
+  items = r .channels .items;
+  lens = r .channels .lens;
+  journal = r .journal;
+}
+
+-- A refused struct comes back as it came.
+abbrev pub refusedPlain : PlainRun → ℕ → PlainAnswer
+refusedPlain p n = record { refusal = n; run = p }
+
+unfoldable pub answerPlain : PlainRun → Answer → PlainAnswer
+answerPlain p a = cond (eqb (a .refusal) 0) (record { refusal = 0; run = plainRun (a .run) }) (refusedPlain p (a .refusal))
+
+-- A mark kind above 2 is unsound: question 1 is answered no.
+abbrev pub ifKinds : PlainRun → PlainAnswer → PlainAnswer
+ifKinds p a = cond (areKinds (p .zones)) a (refusedPlain p 1)
+
+-- A refused opening hands back a run too: 2 zones with stock 0.
+abbrev pub openPlain : ℕ → List ℕ → PlainAnswer
+openPlain count stocks =
+    let o = openCall count stocks in
+    record { refusal = o .refusal; run = plainRun (o .run) }
+
+unfoldable pub sendPlain : PlainRun → ℕ → ℕ → ℕ → PlainAnswer
+sendPlain p from to cars = ifKinds p (answerPlain p (sendCall (runOf p) from to cars))
+
+unfoldable pub receivePlain : PlainRun → ℕ → ℕ → PlainAnswer
+receivePlain p from to = ifKinds p (answerPlain p (receiveCall (runOf p) from to))
+
+unfoldable pub startPlain : PlainRun → ℕ → PlainAnswer
+startPlain p zone = ifKinds p (answerPlain p (startCall (runOf p) zone))
+
+-- What a call that writes answers, and the lent bytes after it.
+pub record PlainOutput : Type 0 where
+  pub answer : PlainWritten
+  pub bytes : List ℕ
+
+-- Only reading names a position.
+abbrev pub writtenOf : Written → PlainWritten
+writtenOf w = record { refusal = w .refusal; position = 0; written = w .written }
+
+abbrev pub outputOf : Output → PlainOutput
+outputOf o = record { answer = writtenOf (o .answer); bytes = o .bytes }
+
+abbrev pub refusedOutput : List ℕ → ℕ → ℕ → PlainOutput
+refusedOutput lent n position = record { answer = record { refusal = n; position = position; written = 0 }; bytes = lent }
+
+unfoldable pub recordPlain : PlainRun → List ℕ → PlainOutput
+recordPlain p lent = cond (areKinds (p .zones)) (outputOf (recordCall (runOf p) lent)) (refusedOutput lent 1 0)
+
+unfoldable pub writePlain : PlainRun → List ℕ → PlainOutput
+writePlain p lent = cond (areKinds (p .zones)) (outputOf (writeCall (runOf p) lent)) (refusedOutput lent 1 0)
+
+abbrev pub readPlain : List ℕ → PlainReading
+readPlain bytes =
+    let t = readCall bytes in
+    record { refusal = t .refusal; position = t .position; run = plainRun (t .run) }
+
+-- A journal's recording: reading's refusal with its position, else what recording its run answers.
+unfoldable pub recordJournal : List ℕ → List ℕ → PlainOutput
+recordJournal bytes lent =
+    let t = readCall bytes in
+    cond (eqb (t .refusal) 0) (outputOf (recordCall (t .run) lent)) (refusedOutput lent (t .refusal) (t .position))
