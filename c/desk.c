@@ -23,41 +23,34 @@ static void must(int holds, const char *what)
     }
 }
 
-/* Stores the run of an answer, as a desk does after every call. */
-static void keep(cut_answer a, uint8_t refusal, const char *what)
-{
-    must(a.refusal == refusal, what);
-    run = a.run;
-}
-
 static void traffic(void)
 {
-    keep(site_send(run, 1, 2, 4), 0, "1 hands 4 cars to 2");
-    keep(site_receive(run, 1, 2), 0, "2 takes them");
-    keep(site_send(run, 3, 2, 5), 0, "3 hands 5 cars to 2");
-    keep(site_send(run, 1, 3, 2), 0, "1 hands 2 cars to 3");
-    keep(site_start(run, 2), 0, "2 starts");
-    keep(site_start(run, 1), 11, "a second start is refused");
-    keep(site_send(run, 2, 3, 7), 0, "2 hands 7 cars to 3");
-    keep(site_receive(run, 2, 3), 0, "3 takes them");
-    keep(site_receive(run, 1, 3), 0, "3 takes the 2 cars");
+    must(cut_send(&run, 1, 2, 4) == 0, "1 hands 4 cars to 2");
+    must(cut_receive(&run, 1, 2) == 0, "2 takes them");
+    must(cut_send(&run, 3, 2, 5) == 0, "3 hands 5 cars to 2");
+    must(cut_send(&run, 1, 3, 2) == 0, "1 hands 2 cars to 3");
+    must(cut_start(&run, 2) == 0, "2 starts");
+    must(cut_start(&run, 1) == 11, "a second start is refused");
+    must(cut_send(&run, 2, 3, 7) == 0, "2 hands 7 cars to 3");
+    must(cut_receive(&run, 2, 3) == 0, "3 takes them");
+    must(cut_receive(&run, 1, 3) == 0, "3 takes the 2 cars");
 }
 
 int main(void)
 {
     const uint16_t stocks[] = {10, 20, 30};
     uint8_t bytes[CUT_RECORDING_BYTES];
-    keep(site_open(9, stocks, 3), 2, "9 zones are refused");
-    keep(site_open(3, stocks, 3), 0, "the site opens");
-    must(site_record(run, bytes, sizeof bytes).refusal == 12, "nothing was started");
+    must(cut_open(&run, 9, stocks, 3) == 2, "9 zones are refused");
+    must(cut_open(&run, 3, stocks, 3) == 0, "the site opens");
+    must(cut_record(&run, bytes, sizeof bytes).refusal == 12, "nothing was started");
     traffic();
-    must(site_record(run, bytes, sizeof bytes).refusal == 13, "a request is under way");
-    keep(site_receive(run, 2, 1), 0, "1 takes the request");
+    must(cut_record(&run, bytes, sizeof bytes).refusal == 13, "a request is under way");
+    must(cut_receive(&run, 2, 1) == 0, "1 takes the request");
 
-    cut_written w = journal_write(run, bytes, sizeof bytes);
+    cut_written w = cut_write(&run, bytes, sizeof bytes);
     must(w.refusal == 0 && w.written == sizeof journal, "the journal is written");
     must(memcmp(bytes, journal, sizeof journal) == 0, "the journal is that of case A");
-    w = site_record(run, bytes, sizeof bytes);
+    w = cut_record(&run, bytes, sizeof bytes);
     must(w.refusal == 0 && w.written == sizeof recording, "the recording is written");
     must(memcmp(bytes, recording, sizeof recording) == 0, "the recording is that of case A");
 
@@ -68,9 +61,9 @@ int main(void)
     must(journal_record(journal, sizeof journal - 1, bytes, sizeof bytes).refusal == 17, "a cut journal is refused");
 
     cut_run unsound = run;
-    unsound.zones[7].mark = 3;
-    cut_answer a = site_send(unsound, 1, 2, 1);
-    must(a.refusal == 1 && a.run.zones[7].mark == 3, "a mark above 2 is refused as it came");
+    unsound.head.zones[7].mark = 3;
+    must(cut_send(&unsound, 1, 2, 1) == 1, "a mark above 2 is refused");
+    must(unsound.head.zones[7].mark == 3 && unsound.head.records == run.head.records, "and left as it was");
     for (size_t i = 0; i < w.written; i++)
         printf(i == 0 ? "%02X" : " %02X", bytes[i]);
     printf("\n");

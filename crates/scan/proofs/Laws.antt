@@ -1,11 +1,12 @@
--- What one item more adds to the scan of a channel. Assumes nothing.
+-- What one item more adds to the scan of a channel, and that no channel stands behind those of the last zone. Assumes nothing.
 use mathlib.Core.Path.{_≡_, refl, sym, _∙_, ap}
 use mathlib.Core.Bool.{Bool, true, false, _&&_, not, cond}
+use mathlib.Core.Logic.{_⊎_, inl, inr}
 use mathlib.Core.List.{List, [], _∷_, map}
-use Prim.Native.Nat.{ℕ, zero, suc, _+_, _*_, _^_, _<_, _≤_, min}
+use Prim.Native.Nat.{ℕ, zero, suc, _+_, _*_, _/_, _^_, _<_, _≤_, min}
 use native.Mathlib.Numerals.{add-one}
 use native.Mathlib.Omega.{arith}
-use borrow.Author.Tests.{lt-ltb}
+use borrow.Author.Tests.{lt-ltb, le-ltb}
 use lib.Dec.{ltb}
 use lib.ListN.{length, getD, take, drop, length-take}
 use lib.Pow.{pow-pos}
@@ -15,7 +16,9 @@ use Rattle.channel.specs.Words.{itemOf, setIn, carsIn}
 use Rattle.channel.specs.Channels.{wordsOn, lenOf}
 use Rattle.channel.specs.declared.Channels.{Channels}
 use Rattle.rules.specs.Below.{allBelow, anyBelow, sumBelow}
-use Rattle.run.specs.State.{setsWithin, carsOf}
+use Rattle.rules.proofs.Tests.{Same, same?}
+use Rattle.run.specs.State.{setsWithin, carsOf, isChannel}
+use Rattle.scan.specs.At.{soundAt, carsAt}
 
 pub and-true : (b : Bool) → b && true ≡ b
 and-true true = refl
@@ -69,6 +72,41 @@ module _ (l : Channels) (k p : ℕ) (h : p < min (lenOf l k) 16) where
   cars-item n m e f =
       let w = word-at l k p (omega arith) (omega arith) in
       rw (add-one p, cars-more (wordsOn l k) p, w, e, f)
+
+-- What is true, or 0, from n on adds nothing to a test or a sum.
+pub all-end : (n m : ℕ) (f : ℕ → Bool) → n ≤ m → ((i : ℕ) → n ≤ i → f i ≡ true) → allBelow m f ≡ allBelow n f
+all-end n zero f h t =
+    let e : zero ≡ n = omega arith in
+    ap (λ (k : ℕ). allBelow k f) e
+all-end n (suc m) f h t = go (λ b. all-end n m f b t) (same? n (suc m))
+  where
+    go : (n ≤ m → allBelow m f ≡ allBelow n f) → Same n (suc m) → allBelow m f && f m ≡ allBelow n f
+    go more (inl e) = sym (ap (λ (k : ℕ). allBelow k f) (e .0))
+    go more (inr e) = rw (more (omega (arith, e .0)), t m (omega (arith, e .0))) (and-true _)
+
+pub sum-end : (n m : ℕ) (f : ℕ → ℕ) → n ≤ m → ((i : ℕ) → n ≤ i → f i ≡ 0) → sumBelow m f ≡ sumBelow n f
+sum-end n zero f h t =
+    let e : zero ≡ n = omega arith in
+    ap (λ (k : ℕ). sumBelow k f) e
+sum-end n (suc m) f h t = go (λ b. sum-end n m f b t) (same? n (suc m))
+  where
+    go : (n ≤ m → sumBelow m f ≡ sumBelow n f) → Same n (suc m) → sumBelow m f + f m ≡ sumBelow n f
+    go more (inl e) = sym (ap (λ (k : ℕ). sumBelow k f) (e .0))
+    go more (inr e) =
+        let s = more (omega (arith, e .0)) in
+        let z = t m (omega (arith, e .0)) in
+        omega (arith, s, z)
+
+-- A place behind the channels of the last zone has no channel.
+no-channel : (count k : ℕ) → 8 * count ≤ k → isChannel count k ≡ false
+unfolding isChannel
+no-channel count k h = rw (le-ltb (k / 8) count (omega arith))
+
+pub sound-end : (count : ℕ) (l : Channels) → count ≤ 8 → allBelow 64 (soundAt count l) ≡ allBelow (8 * count) (soundAt count l)
+sound-end count l h = all-end (8 * count) 64 (soundAt count l) (omega arith) (λ i b. rw (no-channel count i b))
+
+pub cars-end : (count : ℕ) (l : Channels) → count ≤ 8 → sumBelow 64 (carsAt count l) ≡ sumBelow (8 * count) (carsAt count l)
+cars-end count l h = sum-end (8 * count) 64 (carsAt count l) (omega arith) (λ i b. rw (no-channel count i b))
 
 -- The tests and sums over the numbers below a reached end.
 pub all-to : (f : ℕ → Bool) {i n : ℕ} → i ≡ n → allBelow i f ≡ allBelow n f

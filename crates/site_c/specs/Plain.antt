@@ -1,4 +1,4 @@
--- The site's calls over a plain struct: each is the site's call between two conversions.
+-- The site's calls over plain structs: each is the site's call between two conversions.
 use mathlib.Core.Bool.{Bool, cond}
 use mathlib.Core.List.{List}
 use Prim.Native.Nat.{ℕ}
@@ -7,20 +7,24 @@ use lib.ListN.{getD}
 use Rattle.rules.specs.Below.{allBelow, listBelow}
 use Rattle.rules.specs.Limits.{mostZones}
 use Rattle.rules.specs.declared.Local.{Local}
-use Rattle.channel.specs.Channels.{channelsAs}
 use Rattle.run.specs.Calls.{openCall, sendCall, receiveCall, startCall}
-use Rattle.run.specs.State.{runAs, zoneAt}
+use Rattle.run.specs.State.{zoneAt}
 use Rattle.run.specs.declared.Answer.{Answer}
 use Rattle.run.specs.declared.Run.{Run}
 use Rattle.journal.specs.Reading.{readCall}
 use Rattle.journal.specs.Writing.{Output, writeCall}
 use Rattle.journal.specs.declared.Written.{Written}
 use Rattle.recording.specs.Call.{recordCall}
+use Rattle.site.specs.Lent.{runIn}
+use Rattle.site.specs.declared.Head.{Head}
+use Rattle.site.specs.declared.Turn.{Turn}
 use Rattle.zone_c.specs.Plain.{markOf, kindOf, savedOf}
 use Rattle.site_c.specs.declared.PlainAnswer.{PlainAnswer}
+use Rattle.site_c.specs.declared.PlainHead.{PlainHead}
 use Rattle.site_c.specs.declared.PlainLocal.{PlainLocal}
 use Rattle.site_c.specs.declared.PlainReading.{PlainReading}
 use Rattle.site_c.specs.declared.PlainRun.{PlainRun}
+use Rattle.site_c.specs.declared.PlainTurn.{PlainTurn}
 use Rattle.site_c.specs.declared.PlainWritten.{PlainWritten}
 
 abbrev pub localOf : PlainLocal → Local
@@ -52,30 +56,44 @@ plainLocals zones = listBelow mostZones (λ i. plainLocal (zoneAt zones i))
 unfoldable pub areKinds : List PlainLocal → Bool
 areKinds zones = allBelow mostZones (λ i. leb (plainAt zones i .mark) 2)
 
+abbrev pub headOf : PlainHead → Head
+headOf p = record { count = p .count; records = p .records; zones = localsOf (p .zones); opening = p .opening }
+
+abbrev pub plainHead : Head → PlainHead
+plainHead h = record { count = h .count; records = h .records; zones = plainLocals (h .zones); opening = h .opening }
+
+-- The run of a head and the lent arrays.
+abbrev pub plainIn : PlainHead → List ℕ → List ℕ → List ℕ → PlainRun
+plainIn p items lens journal = record { head = p; items = items; lens = lens; journal = journal }
+
 abbrev pub runOf : PlainRun → Run
-runOf p = runAs (p .count) (p .records) (localsOf (p .zones)) (p .opening) (channelsAs (p .items) (p .lens)) (p .journal)
+runOf p = runIn (headOf (p .head)) (p .items) (p .lens) (p .journal)
 
 abbrev pub plainRun : Run → PlainRun
 plainRun r = record {
-  count = r .count;
-  records = r .records;
-  zones = plainLocals (r .zones);
-  opening = r .opening;
+  head = record { count = r .count; records = r .records; zones = plainLocals (r .zones); opening = r .opening };
   items = r .channels .items;
   lens = r .channels .lens;
   journal = r .journal;
 }
 
--- A refused struct comes back as it came.
+-- A refused run is left as it came.
 abbrev pub refusedPlain : PlainRun → ℕ → PlainAnswer
 refusedPlain p n = record { refusal = n; run = p }
 
 unfoldable pub answerPlain : PlainRun → Answer → PlainAnswer
 answerPlain p a = cond (eqb (a .refusal) 0) (record { refusal = 0; run = plainRun (a .run) }) (refusedPlain p (a .refusal))
 
+unfoldable pub turnPlain : PlainHead → Turn → PlainTurn
+turnPlain p t = cond (eqb (t .refusal) 0) (record { refusal = 0; head = plainHead (t .head) }) (record { refusal = t .refusal; head = p })
+
+-- The answer on the whole run, of what a call answers and leaves in the lent arrays.
+abbrev pub answerIn : PlainTurn → List ℕ → List ℕ → List ℕ → PlainAnswer
+answerIn t items lens journal = record { refusal = t .refusal; run = plainIn (t .head) items lens journal }
+
 -- A mark kind above 2 is unsound: question 1 is answered no.
 abbrev pub ifKinds : PlainRun → PlainAnswer → PlainAnswer
-ifKinds p a = cond (areKinds (p .zones)) a (refusedPlain p 1)
+ifKinds p a = cond (areKinds (p .head .zones)) a (refusedPlain p 1)
 
 -- A refused opening hands back a run too: 2 zones with stock 0.
 abbrev pub openPlain : ℕ → List ℕ → PlainAnswer
@@ -108,10 +126,10 @@ abbrev pub refusedOutput : List ℕ → ℕ → ℕ → PlainOutput
 refusedOutput lent n position = record { answer = record { refusal = n; position = position; written = 0 }; bytes = lent }
 
 unfoldable pub recordPlain : PlainRun → List ℕ → PlainOutput
-recordPlain p lent = cond (areKinds (p .zones)) (outputOf (recordCall (runOf p) lent)) (refusedOutput lent 1 0)
+recordPlain p lent = cond (areKinds (p .head .zones)) (outputOf (recordCall (runOf p) lent)) (refusedOutput lent 1 0)
 
 unfoldable pub writePlain : PlainRun → List ℕ → PlainOutput
-writePlain p lent = cond (areKinds (p .zones)) (outputOf (writeCall (runOf p) lent)) (refusedOutput lent 1 0)
+writePlain p lent = cond (areKinds (p .head .zones)) (outputOf (writeCall (runOf p) lent)) (refusedOutput lent 1 0)
 
 abbrev pub readPlain : List ℕ → PlainReading
 readPlain bytes =

@@ -29,7 +29,11 @@ same-length c = search needs
 
 returns-2 : tie.Need-returns-2
 unfolding writePlain
-returns-2 c = let k = yes (c .before .before .before .before .before .before .before .are-kinds .ensures) (c .before .before .before .before .before .before .if1 .left) in let w = c .before .before .before .write .ensures in let r = c .before .before .before .before .before .run-of .ensures in (rw (k, c .written-of .ensures, w .0, r), rw (k, w .1, r))
+returns-2 c =
+    let k = yes (c .before .before .before .before .before .before .before .are-kinds .ensures) (c .before .before .before .before .before .before .if1 .left) in
+    let w = c .before .before .before .write .ensures in
+    let r = c .before .before .before .before .before .run-of .ensures in
+    (rw (k, c .written-of .ensures, w .0, r), rw (k, w .1, r))
 
 pub journal-write-spec : {M : Type 1} → statement M
 journal-write-spec =

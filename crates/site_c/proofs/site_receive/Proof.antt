@@ -1,6 +1,8 @@
 -- `site_c::site_receive` meets its contract. Assumes nothing.
+use Rattle.run.specs.Lists.{Receive}
 use Rattle.rules.proofs.Tests.{no, yes}
 use Rattle.site_c.specs.Plain.{receivePlain}
+use Rattle.site_c.proofs.Laws.{turn-answer}
 use borrow.Author.Needs.{needs}
 use Rattle.site_c.proofs.site_receive.Statement.{statement}
 use Rattle.site_c.proofs.site_receive.Tie as tie
@@ -12,18 +14,20 @@ returns : tie.Need-returns
 unfolding receivePlain
 returns c = rw (no (c .before .are-kinds .ensures) (c .if1 .taken))
 
-run-of-requires : tie.Need-run-of-requires
-run-of-requires c κs = search needs
+head-of-requires : tie.Need-head-of-requires
+head-of-requires c κs = search needs
 
-receive-requires : tie.Need-receive-requires
-receive-requires c κs = search needs
+receive-in-requires : tie.Need-receive-in-requires
+receive-in-requires c κs = search needs
 
-answer-requires : tie.Need-answer-requires
-answer-requires c κs = search needs
+turned-requires : tie.Need-turned-requires
+turned-requires c κs = search needs
 
 returns-2 : tie.Need-returns-2
 unfolding receivePlain
-returns-2 c = rw (yes (c .before .before .before .before .are-kinds .ensures) (c .before .before .before .if1 .left), c .answer .ensures, c .before .receive .ensures, c .before .before .run-of .ensures)
+returns-2 c =
+    rw (yes (c .before .before .before .before .before .before .before .are-kinds .ensures) (c .before .before .before .before .before .before .if1 .left), c .turned .ensures)
+    (turn-answer (Receive _ _) _ _ _ _ _ (rw (c .before .before .before .before .before .head-of .ensures) at (c .before .receive-in .ensures)))
 
 pub site-receive-spec : {M : Type 1} → statement M
 site-receive-spec =
@@ -31,7 +35,7 @@ site-receive-spec =
     (tie.spec
     are-kinds-requires
     returns
-    run-of-requires
-    receive-requires
-    answer-requires
+    head-of-requires
+    receive-in-requires
+    turned-requires
     returns-2)

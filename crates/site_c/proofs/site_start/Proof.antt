@@ -1,6 +1,8 @@
 -- `site_c::site_start` meets its contract. Assumes nothing.
+use Rattle.run.specs.Lists.{Start}
 use Rattle.rules.proofs.Tests.{no, yes}
 use Rattle.site_c.specs.Plain.{startPlain}
+use Rattle.site_c.proofs.Laws.{turn-answer}
 use borrow.Author.Needs.{needs}
 use Rattle.site_c.proofs.site_start.Statement.{statement}
 use Rattle.site_c.proofs.site_start.Tie as tie
@@ -12,20 +14,28 @@ returns : tie.Need-returns
 unfolding startPlain
 returns c = rw (no (c .before .are-kinds .ensures) (c .if1 .taken))
 
-run-of-requires : tie.Need-run-of-requires
-run-of-requires c κs = search needs
+head-of-requires : tie.Need-head-of-requires
+head-of-requires c κs = search needs
 
-start-requires : tie.Need-start-requires
-start-requires c κs = search needs
+start-in-requires : tie.Need-start-in-requires
+start-in-requires c κs = search needs
 
-answer-requires : tie.Need-answer-requires
-answer-requires c κs = search needs
+turned-requires : tie.Need-turned-requires
+turned-requires c κs = search needs
 
 returns-2 : tie.Need-returns-2
 unfolding startPlain
-returns-2 c = rw (yes (c .before .before .before .before .are-kinds .ensures) (c .before .before .before .if1 .left), c .answer .ensures, c .before .start .ensures, c .before .before .run-of .ensures)
+returns-2 c =
+    rw (yes (c .before .before .before .before .before .before .before .are-kinds .ensures) (c .before .before .before .before .before .before .if1 .left), c .turned .ensures)
+    (turn-answer (Start _) _ _ _ _ _ (rw (c .before .before .before .before .before .head-of .ensures) at (c .before .start-in .ensures)))
 
 pub site-start-spec : {M : Type 1} → statement M
 site-start-spec =
     tie.close
-    (tie.spec are-kinds-requires returns run-of-requires start-requires answer-requires returns-2)
+    (tie.spec
+    are-kinds-requires
+    returns
+    head-of-requires
+    start-in-requires
+    turned-requires
+    returns-2)

@@ -1,0 +1,13 @@
+-- `site_c::head_of` meets its contract. Assumes nothing.
+use borrow.Author.Needs.{needs}
+use Rattle.site_c.proofs.head_of.Statement.{statement}
+use Rattle.site_c.proofs.head_of.Tie as tie
+
+locals-of-requires : tie.Need-locals-of-requires
+locals-of-requires c κs = search needs
+
+returns : tie.Need-returns
+returns c = rw (c .before .locals-of .ensures)
+
+pub head-of-spec : {M : Type 1} → statement M
+head-of-spec = tie.close (tie.spec locals-of-requires returns)
