@@ -9,9 +9,9 @@ use zone::Zone;
 pub fn send(zone: &mut Zone, to: u8, cars: u8) -> Step
     ensures { λ r. ⌜ (r ≡ sendStep (now (zone .entry)) to cars) × (now (zone .exit) ≡ sendStep (now (zone .entry)) to cars .zone) ⌝ }
 {
-    let step = (*zone).send(to, cars);
-    *zone = step.zone;
-    step
+    let sent = (*zone).send(to, cars);
+    *zone = sent.zone;
+    sent
 }
 
 // A message ("hand-over") with its flag is received from another zone.
@@ -21,25 +21,25 @@ pub fn receive(zone: &mut Zone, from: u8, cars: u8, flag: bool) -> Step
         × (now (zone .exit) ≡ receiveStep (now (zone .entry)) from cars flag .zone)
         ⌝ }
 {
-    let step = (*zone).receive(from, cars, flag);
-    *zone = step.zone;
-    step
+    let received = (*zone).receive(from, cars, flag);
+    *zone = received.zone;
+    received
 }
 
 // A request with its set is received.
 pub fn request(zone: &mut Zone, set: u8) -> Step
     ensures { λ r. ⌜ (r ≡ requestStep (now (zone .entry)) set) × (now (zone .exit) ≡ requestStep (now (zone .entry)) set .zone) ⌝ }
 {
-    let step = (*zone).request(set);
-    *zone = step.zone;
-    step
+    let asked = (*zone).request(set);
+    *zone = asked.zone;
+    asked
 }
 
 // A recording is started by this zone.
 pub fn start(zone: &mut Zone) -> Step
     ensures { λ r. ⌜ (r ≡ startStep (now (zone .entry))) × (now (zone .exit) ≡ startStep (now (zone .entry)) .zone) ⌝ }
 {
-    let step = (*zone).start();
-    *zone = step.zone;
-    step
+    let started = (*zone).start();
+    *zone = started.zone;
+    started
 }
