@@ -31,13 +31,16 @@ sum-at (suc n) f i h =
     ⊎-elim (λ (q : i ≡ n). let e = ap f q in omega arith) (λ (q : i < n). let s = sum-at n f i q in omega arith)
     (eq-or-lt-of-le (le-of-suc-le-suc h))
 
--- The channel of two different zones.
-pub channel-at : (count a b : ℕ) → count ≤ 8 → a < count → b < count → a ≢ b → isChannel count (place a b) ≡ true
+-- The channel of two zones, by their indices.
+pub channel-is : (count a b : ℕ) → b < 8 → isChannel count (place a b) ≡ ltb a count && ltb b count && not (eqb a b)
 unfolding isChannel
-channel-at count a b c ha hb ne =
+channel-is count a b h =
     let d : (a * 8 + b) / 8 ≡ a = omega arith in
     let m : (a * 8 + b) % 8 ≡ b = omega arith in
-    rw (d, m, lt-ltb a count ha, lt-ltb b count hb, ne-eqb a b ne)
+    rw (d, m)
+
+pub channel-at : (count a b : ℕ) → count ≤ 8 → a < count → b < count → a ≢ b → isChannel count (place a b) ≡ true
+channel-at count a b c ha hb ne = rw (channel-is count a b (omega arith), lt-ltb a count ha, lt-ltb b count hb, ne-eqb a b ne)
 
 pub place-lt : (count a b : ℕ) → count ≤ 8 → a < count → b < count → place a b < 64
 place-lt count a b c ha hb = omega arith

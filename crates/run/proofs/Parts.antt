@@ -18,7 +18,8 @@ use Rattle.rules.specs.Below.{sumBelow}
 use Rattle.run.specs.State.{zoneAt, isChannel, zoneSound, zonesSound, setsWithin, channelSound, channelsSound, carsOf, stocks, carsOnChannels, partsSound, isSound}
 use Rattle.run.specs.Model.{siteOf}
 use Rattle.run.specs.declared.Run.{Run}
-use Rattle.run.proofs.BelowLaws.{all-at, all-of, sum-same}
+use Rattle.run.proofs.BelowLaws.{all-of, sum-same}
+use Rattle.run.proofs.Facts.{channel-is, channel-at, place-lt, sound-low, sound-high, sound-records, sound-events, sound-deps, sound-length, sound-sets, sound-total}
 
 -- Is there a channel from i to j on the site?
 abbrev pub onSite : ℕ → ℕ → ℕ → Bool
@@ -30,17 +31,10 @@ pub record Between (count i j : ℕ) : Type 0 where
   pub apart : i ≢ j
   pub near : j < mostZones
 
-channel-at : (count i j : ℕ) → j < 8 → isChannel count (place i j) ≡ ltb i count && ltb j count && not (eqb i j)
-unfolding isChannel
-channel-at count i j h =
-    let e : (i * 8 + j) / 8 ≡ i = omega arith in
-    let f : (i * 8 + j) % 8 ≡ j = omega arith in
-    rw (e, f)
-
 pub between : (count i j : ℕ) → onSite count i j ≡ true → Between count i j
 between count i j e =
     let h = ltb-true j 8 (and-left (ltb j 8) (isChannel count (place i j)) e) in
-    let f = sym (channel-at count i j h) ∙ and-right (ltb j 8) (isChannel count (place i j)) e in
+    let f = sym (channel-is count i j h) ∙ and-right (ltb j 8) (isChannel count (place i j)) e in
     let g = and-left (ltb i count && ltb j count) (not (eqb i j)) f in
     record {
       from = ltb-true i count (and-left (ltb i count) (ltb j count) g);
@@ -52,7 +46,7 @@ between count i j e =
 pub on-site : (count i j : ℕ) → count ≤ 8 → i < count → j < count → i ≢ j → onSite count i j ≡ true
 on-site count i j h hi hj d =
     let b : j < 8 = omega arith in
-    rw (lt-ltb j 8 b, channel-at count i j b, lt-ltb i count hi, lt-ltb j count hj, ne-eqb i j d)
+    rw (lt-ltb j 8 b, channel-at count i j h hi hj d)
 
 -- The cars of a site: stocks, and cars on channels.
 abbrev pub stocksS : ℕ → Site → ℕ
@@ -97,50 +91,15 @@ cars-are r = sum-same 64 _ _ (λ k h. at k (isChannel (r .count) k) refl)
         go true = refl
         go false = refl
 
--- Five tests joined by "and".
-five : (a b c d e : Bool) → a && b && c && d && e ≡ true → (a ≡ true) × (b ≡ true) × (c ≡ true) × (d ≡ true) × (e ≡ true)
-five a b c d e h =
-    let k = and-left (a && b && c && d) e h in
-    let m = and-left (a && b && c) d k in
-    let n = and-left (a && b) c m in
-    (and-left a b n, and-right a b n, and-right (a && b) c m, and-right (a && b && c) d k, and-right (a && b && c && d) e h)
-
 -- A channel test, at the channels of the site only.
-implied : (p q : Bool) → not p || q ≡ true → p ≡ true → q ≡ true
-implied true q h e = h
-implied false q h e = absurd (false≢true e)
-
 implies : (p q : Bool) → (p ≡ true → q ≡ true) → not p || q ≡ true
 implies true q h = h refl
 implies false q h = refl
-
-zone-facts : (r : Run) → zonesSound (r .count) (r .records) (r .zones) ≡ true → (i : ℕ) → i < r .count
-    → (siteOf r .zone i .events ≤ r .records) × (siteOf r .zone i .deps < 2 ^ r .count)
-unfolding zonesSound zoneSound
-zone-facts r e i b =
-    let z = zoneAt (r .zones) i in
-    let p = leb (z .events) (r .records) in
-    let q = within (z .deps) (r .count) in
-    let h : p && q ≡ true = all-at (r .count) (λ i. zoneSound (r .count) (r .records) (zoneAt (r .zones) i)) e i b in
-    rw (zone-on r i b) (leb-true _ _ (and-left p q h), ltb-true _ _ (and-right p q h))
 
 zones-of : (r : Run) → ((i : ℕ) → i < r .count → siteOf r .zone i .events ≤ r .records)
     → ((i : ℕ) → i < r .count → siteOf r .zone i .deps < 2 ^ r .count) → zonesSound (r .count) (r .records) (r .zones) ≡ true
 unfolding zonesSound zoneSound
 zones-of r h k = all-of (r .count) _ (λ i b. rw (← zone-on r i b, le-leb _ _ (h i b)) (lt-ltb _ _ (k i b)))
-
-channel-facts : (r : Run) → r .count ≤ 8 → channelsSound (r .count) (r .channels) ≡ true → (i j : ℕ) → onSite (r .count) i j ≡ true
-    → (lenOf (r .channels) (place i j) ≤ places) × (setsWithin (r .count) (siteOf r .channel i j) ≡ true)
-unfolding channelsSound channelSound
-channel-facts r m h i j e =
-    let b = between (r .count) i j e in
-    let k = place i j in
-    let p = leb (lenOf (r .channels) k) places in
-    let q = setsWithin (r .count) (itemsOn (r .channels) k) in
-    let f : p && q ≡ true = implied (isChannel (r .count) k) (channelSound (r .count) (r .channels) k)
-    (all-at 64 (λ k. not (isChannel (r .count) k) || channelSound (r .count) (r .channels) k) h k (omega arith))
-    (and-right (ltb j 8) (isChannel (r .count) k) e) in
-    rw (channel-on r i j e) (leb-true _ _ (and-left p q f), and-right p q f)
 
 channels-of : (r : Run) → ((i j : ℕ) → onSite (r .count) i j ≡ true → lenOf (r .channels) (place i j) ≤ places)
     → ((i j : ℕ) → onSite (r .count) i j ≡ true → setsWithin (r .count) (siteOf r .channel i j) ≡ true)
@@ -158,21 +117,24 @@ channels-of r h k = all-of 64 _ (λ p b. implies (isChannel (r .count) p) _ (at 
         subst (λ (q : ℕ). channelSound (r .count) (r .channels) q ≡ true) f
         (rw (le-leb _ _ (h i j e), ← channel-on r i j e) (k i j e))
 
+-- A channel of the site stands at one of the 64 places.
+at-place : (count i j : ℕ) → count ≤ 8 → onSite count i j ≡ true → (place i j < 64) × (isChannel count (place i j) ≡ true)
+at-place count i j h e =
+    let b = between count i j e in
+    (place-lt count i j h (b .from) (b .to), and-right (ltb j 8) (isChannel count (place i j)) e)
+
 pub parts : (r : Run) → isSound r ≡ true → SoundRun r
-unfolding partsSound isCount
 parts r h =
-    let n = r .count in
-    let a = five (isCount n) (leb (r .records) 1000) (zonesSound n (r .records) (r .zones)) (channelsSound n (r .channels)) _ h in
-    let m = leb-true n 8 (and-right (leb 2 n) (leb n 8) (a .0)) in
+    let m = sound-high _ _ _ _ h in
     record {
-      fewest = leb-true 2 n (and-left (leb 2 n) (leb n 8) (a .0));
+      fewest = sound-low _ _ _ _ h;
       most = m;
-      records = leb-true (r .records) 1000 (a .1);
-      events = λ i b. zone-facts r (a .2) i b .0;
-      deps = λ i b. zone-facts r (a .2) i b .1;
-      lens = λ i j e. channel-facts r m (a .3) i j e .0;
-      sets = λ i j e. channel-facts r m (a .3) i j e .1;
-      cars = subst (λ (x : ℕ). x ≤ mostCars) (ap₂ _+_ (stocks-are r) (cars-are r)) (leb-true _ _ (a .4));
+      records = sound-records _ _ _ _ h;
+      events = λ i b. rw (zone-on r i b) (sound-events _ _ _ _ h i b);
+      deps = λ i b. rw (zone-on r i b) (sound-deps _ _ _ _ h i b);
+      lens = λ i j e. let p = at-place (r .count) i j m e in sound-length _ _ _ _ h (place i j) (p .0) (p .1);
+      sets = λ i j e. let p = at-place (r .count) i j m e in rw (channel-on r i j e) (sound-sets _ _ _ _ h (place i j) (p .0) (p .1));
+      cars = subst (λ (x : ℕ). x ≤ mostCars) (ap₂ _+_ (stocks-are r) (cars-are r)) (sound-total _ _ _ _ h);
     }
 
 pub sound : (r : Run) → SoundRun r → isSound r ≡ true

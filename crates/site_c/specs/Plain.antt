@@ -1,6 +1,6 @@
 -- The site's calls over plain structs: each is the site's call between two conversions.
 use mathlib.Core.Bool.{Bool, cond}
-use mathlib.Core.List.{List}
+use mathlib.Core.List.{List, [], _∷_}
 use Prim.Native.Nat.{ℕ}
 use lib.Dec.{leb, eqb}
 use lib.ListN.{getD}
@@ -8,6 +8,7 @@ use Rattle.rules.specs.Below.{allBelow, listBelow}
 use Rattle.rules.specs.Limits.{mostZones}
 use Rattle.rules.specs.declared.Local.{Local}
 use Rattle.run.specs.Calls.{openCall, sendCall, receiveCall, startCall}
+use Rattle.run.specs.Lists.{SiteCall, Send, Receive, Start}
 use Rattle.run.specs.State.{zoneAt}
 use Rattle.run.specs.declared.Answer.{Answer}
 use Rattle.run.specs.declared.Run.{Run}
@@ -84,6 +85,10 @@ refusedPlain p n = record { refusal = n; run = p }
 unfoldable pub answerPlain : PlainRun → Answer → PlainAnswer
 answerPlain p a = cond (eqb (a .refusal) 0) (record { refusal = 0; run = plainRun (a .run) }) (refusedPlain p (a .refusal))
 
+-- A whole answer of the engine, as C gets it.
+abbrev pub plainAnswer : Answer → PlainAnswer
+plainAnswer a = record { refusal = a .refusal; run = plainRun (a .run) }
+
 unfoldable pub turnPlain : PlainHead → Turn → PlainTurn
 turnPlain p t = cond (eqb (t .refusal) 0) (record { refusal = 0; head = plainHead (t .head) }) (record { refusal = t .refusal; head = p })
 
@@ -97,9 +102,7 @@ ifKinds p a = cond (areKinds (p .head .zones)) a (refusedPlain p 1)
 
 -- A refused opening hands back a run too: 2 zones with stock 0.
 abbrev pub openPlain : ℕ → List ℕ → PlainAnswer
-openPlain count stocks =
-    let o = openCall count stocks in
-    record { refusal = o .refusal; run = plainRun (o .run) }
+openPlain count stocks = plainAnswer (openCall count stocks)
 
 unfoldable pub sendPlain : PlainRun → ℕ → ℕ → ℕ → PlainAnswer
 sendPlain p from to cars = ifKinds p (answerPlain p (sendCall (runOf p) from to cars))
@@ -109,6 +112,16 @@ receivePlain p from to = ifKinds p (answerPlain p (receiveCall (runOf p) from to
 
 unfoldable pub startPlain : PlainRun → ℕ → PlainAnswer
 startPlain p zone = ifKinds p (answerPlain p (startCall (runOf p) zone))
+
+-- A call with any arguments, and the run after a list of them, refused ones included.
+abbrev pub callPlain : SiteCall → PlainRun → PlainAnswer
+callPlain (Send from to cars) p = sendPlain p from to cars
+callPlain (Receive from to) p = receivePlain p from to
+callPlain (Start zone) p = startPlain p zone
+
+abbrev pub afterPlain : List SiteCall → PlainRun → PlainRun
+afterPlain [] p = p
+afterPlain (c ∷ cs) p = afterPlain cs (callPlain c p .run)
 
 -- What a call that writes answers, and the lent bytes after it.
 pub record PlainOutput : Type 0 where

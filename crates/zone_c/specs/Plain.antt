@@ -13,7 +13,7 @@ use Rattle.zone_c.specs.declared.PlainSaved.{PlainSaved}
 use Rattle.zone_c.specs.declared.PlainStep.{PlainStep}
 use Rattle.zone_c.specs.declared.PlainZone.{PlainZone}
 
--- The mark of a kind: 0 none, 1 provisional, 2 firm.
+-- The mark of a kind: 0 none, 1 provisional, 2 firm; a higher kind is refused before it is asked for.
 unfoldable pub markOf : ℕ → PlainSaved → Checkpoint
 markOf kind s =
     cond (eqb kind 0) None
@@ -63,6 +63,10 @@ answerPlain p s =
     cond (eqb (s .refusal) 0)
     (record { zone = plainOf (s .zone); refusal = 0; flag = flagOf (s .flag); to = s .to; carried = s .carried })
     (refusedPlain p (s .refusal))
+
+-- A whole answer of the zone part, as C gets it.
+abbrev pub plainStep : Step → PlainStep
+plainStep s = record { zone = plainOf (s .zone); refusal = s .refusal; flag = flagOf (s .flag); to = s .to; carried = s .carried }
 
 -- A mark kind above 2 is unsound: question 1 is answered no.
 abbrev pub ifKind : PlainZone → PlainStep → PlainStep

@@ -1,0 +1,111 @@
+-- On every struct that a call gave, a call for C is the engine's call: so a list of them is the same list of calls, to which demand 3
+-- applies. Assumes nothing.
+use mathlib.Core.Path.{_≡_, refl, sym, _∙_, ap}
+use mathlib.Core.Bool.{Bool, true, false}
+use mathlib.Core.List.{List, [], _∷_}
+use Prim.Native.Nat.{ℕ, _<_}
+use native.Mathlib.Omega.{arith}
+use lib.Dec.{leb, eqb}
+use borrow.Author.Tests.{eqb-true}
+use lib.ListN.{length}
+use lib.Seq.{ext-getD}
+use Rattle.rules.specs.Limits.{mostZones}
+use Rattle.rules.specs.declared.Checkpoint.{Checkpoint}
+use Rattle.rules.specs.declared.Checkpoint.the-variants.{None, Mutable, Permanent}
+use Rattle.rules.specs.declared.Local.{Local}
+use Rattle.run.specs.Calls.{openCall}
+use Rattle.run.specs.Claims.{WholeRun}
+use Rattle.run.specs.Lists.{SiteCall, Send, Receive, Start, answer, after}
+use Rattle.run.specs.State.{noLocal, zoneAt}
+use Rattle.run.specs.declared.Run.{Run}
+use Rattle.run.proofs.BelowLaws.{all-of, length-below, list-at}
+use Rattle.run.proofs.Outcome.{kept}
+use Rattle.run.proofs.Whole.{call-whole, open-whole}
+use Rattle.journal.specs.Writing.{writeCall}
+use Rattle.recording.specs.Call.{recordCall}
+use Rattle.zone_c.specs.Plain.{kindOf}
+use Rattle.zone_c.proofs.Laws.{mark-back}
+use Rattle.site_c.specs.Plain.{
+  localOf,
+  plainLocal,
+  noPlain,
+  plainAt,
+  localsOf,
+  plainLocals,
+  areKinds,
+  runOf,
+  plainRun,
+  plainAnswer,
+  answerPlain,
+  openPlain,
+  sendPlain,
+  receivePlain,
+  startPlain,
+  callPlain,
+  afterPlain,
+  outputOf,
+  recordPlain,
+  writePlain,
+}
+
+local-back : (z : Local) → localOf (plainLocal z) ≡ z
+local-back z = rw (mark-back (z .checkpoint))
+
+-- Eight zones are what their structs stand for.
+locals-back : (zones : List Local) → length zones ≡ 8 → localsOf (plainLocals zones) ≡ zones
+unfolding localsOf plainLocals
+locals-back zones e =
+    ext-getD noLocal _ zones (length-below 8 (λ i. localOf (plainAt (plainLocals zones) i)) ∙ sym e)
+    (λ i h. at i (rw (length-below 8 (λ i. localOf (plainAt (plainLocals zones) i))) at h))
+  where
+    at : (i : ℕ) → i < 8 → zoneAt (localsOf (plainLocals zones)) i ≡ zoneAt zones i
+    at i h =
+        list-at 8 (λ i. localOf (plainAt (plainLocals zones) i)) noLocal i h
+        ∙ ap localOf (list-at 8 (λ i. plainLocal (zoneAt zones i)) noPlain i h)
+        ∙ local-back (zoneAt zones i)
+
+kind-at : (c : Checkpoint) → leb (kindOf c) 2 ≡ true
+kind-at None = refl
+kind-at (Mutable s) = refl
+kind-at (Permanent s) = refl
+
+kinds : (zones : List Local) → areKinds (plainLocals zones) ≡ true
+unfolding areKinds plainLocals
+kinds zones = all-of 8 (λ i. leb (plainAt (plainLocals zones) i .mark) 2) at
+  where
+    at : (i : ℕ) → i < 8 → leb (plainAt (plainLocals zones) i .mark) 2 ≡ true
+    at i h = rw (list-at 8 (λ i. plainLocal (zoneAt zones i)) noPlain i h) (kind-at (zoneAt zones i .checkpoint))
+
+pub run-back : (r : Run) → WholeRun r → runOf (plainRun r) ≡ r
+run-back r w = rw (locals-back (r .zones) (w .zones))
+
+told : (c : SiteCall) (r : Run) → answerPlain (plainRun r) (answer c r) ≡ plainAnswer (answer c r)
+unfolding answerPlain
+told c r = go (eqb (answer c r .refusal) 0) refl
+  where
+    go : (b : Bool) → eqb (answer c r .refusal) 0 ≡ b → answerPlain (plainRun r) (answer c r) ≡ plainAnswer (answer c r)
+    go true e = rw (eqb-true (answer c r .refusal) 0 e)
+    go false e = rw (e, kept c r e)
+
+pub call-plain : (c : SiteCall) (r : Run) → WholeRun r → callPlain c (plainRun r) ≡ plainAnswer (answer c r)
+unfolding sendPlain receivePlain startPlain
+call-plain (Send from to cars) r w = rw (kinds (r .zones), run-back r w) (told (Send from to cars) r)
+call-plain (Receive from to) r w = rw (kinds (r .zones), run-back r w) (told (Receive from to) r)
+call-plain (Start zone) r w = rw (kinds (r .zones), run-back r w) (told (Start zone) r)
+
+pub calls-plain : (cs : List SiteCall) (r : Run) → WholeRun r → afterPlain cs (plainRun r) ≡ plainRun (after cs r)
+calls-plain [] r w = refl
+calls-plain (c ∷ cs) r w = rw (call-plain c r w) (calls-plain cs (answer c r .run) (call-whole c r w))
+
+-- A list of calls after an opening, and what is written after it.
+module _ (count : ℕ) (stocks : List ℕ) (cs : List SiteCall) where
+  pub opened-plain : afterPlain cs (openPlain count stocks .run) ≡ plainRun (after cs (openCall count stocks .run))
+  opened-plain = calls-plain cs (openCall count stocks .run) (open-whole count stocks)
+
+pub record-plain : (r : Run) (lent : List ℕ) → WholeRun r → recordPlain (plainRun r) lent ≡ outputOf (recordCall r lent)
+unfolding recordPlain
+record-plain r lent w = rw (kinds (r .zones), run-back r w)
+
+pub write-plain : (r : Run) (lent : List ℕ) → WholeRun r → writePlain (plainRun r) lent ≡ outputOf (writeCall r lent)
+unfolding writePlain
+write-plain r lent w = rw (kinds (r .zones), run-back r w)
