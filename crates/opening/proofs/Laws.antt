@@ -1,10 +1,12 @@
--- A sum of stocks one step longer. Assumes nothing.
-use mathlib.Core.Path.{_≡_, refl}
+-- Stocks: a sum one step longer, and a list of 8 by its places. Assumes nothing.
+use mathlib.Core.Path.{_≡_, refl, sym}
 use mathlib.Core.List.{List, [], _∷_}
 use Prim.Native.Nat.{ℕ, zero, suc, _+_}
 use native.Mathlib.Omega.{arith}
-use lib.ListN.{getD, take}
-use Rattle.rules.specs.Below.{sum}
+use lib.ListN.{length, getD, take}
+use lib.Seq.{ext-getD}
+use Rattle.rules.specs.Below.{listBelow, sum}
+use Rattle.run.proofs.BelowLaws.{list-at}
 
 -- One stock more; behind the end there is 0.
 pub sum-more : (xs : List ℕ) (i : ℕ) → sum (take (suc i) xs) ≡ sum (take i xs) + getD xs i 0
@@ -12,3 +14,8 @@ sum-more [] zero = refl
 sum-more [] (suc i) = refl
 sum-more (x ∷ xs) zero = omega arith
 sum-more (x ∷ xs) (suc i) = let h = sum-more xs i in omega arith
+
+-- A list of 8 stocks is the list of what stands at its places.
+pub all-places : (xs : List ℕ) → length xs ≡ 8 → xs ≡ listBelow 8 (λ i. getD xs i 0)
+all-places xs e =
+    ext-getD 0 xs (listBelow 8 (λ i. getD xs i 0)) e (λ j h. sym (list-at 8 (λ i. getD xs i 0) 0 j (omega arith)))
