@@ -1,10 +1,10 @@
 -- The channels ("lines") of a site: 64 of 16 places each in one list of 1,024 words, and their 64 lengths. The channel from the zone at
 -- index i to the zone at index j is at place i * 8 + j.
-use mathlib.Core.Bool.{Bool, true, false, cond, _||_, _&&_, not}
-use mathlib.Core.List.{List, [], _∷_, _++_, map}
+use mathlib.Core.Bool.{Bool, true, cond, _||_, _&&_, not}
+use mathlib.Core.List.{List, [], _∷_, map}
 use mathlib.Core.Path.{_≡_}
 use Prim.Native.Nat.{ℕ, zero, suc, _+_, _-_, _*_, _<_, _≤_}
-use lib.Dec.{leb, ltb, eqb}
+use lib.Dec.{ltb}
 use lib.ListN.{length, getD, set, take, drop}
 use Rattle.rules.specs.Limits.{places, mostZones}
 use Rattle.rules.specs.Sets.{has, members}

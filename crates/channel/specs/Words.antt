@@ -1,7 +1,6 @@
 -- The word that stands for an item on a channel: a message of cars is the cars, and 256 more with the flag; a request is 512 more than
 -- its set. Every word is an item; a word above 767 is a request whose set names a zone that no site has.
-use mathlib.Core.Bool.{Bool, true, false, cond}
-use mathlib.Core.List.{List, [], _∷_}
+use mathlib.Core.Bool.{Bool, cond}
 use Prim.Native.Nat.{ℕ, _+_, _-_, _%_}
 use lib.Dec.{leb, ltb}
 use Rattle.rules.specs.Site.{Item, message, request}

@@ -1,7 +1,6 @@
 -- Calls known by their contracts alone lead where the definitions lead. Assumes nothing.
-use mathlib.Core.Path.{_≡_, refl, sym, _∙_, ap, subst}
-use mathlib.Core.List.{List, [], _∷_}
-use Prim.Native.Nat.{ℕ}
+use mathlib.Core.Path.{_≡_, refl, sym, ap, subst}
+use mathlib.Core.List.{List, _∷_}
 use lib.Dec.{eqb}
 use Rattle.rules.specs.Change.{cons-if}
 use Rattle.rules.specs.Site.{Call}

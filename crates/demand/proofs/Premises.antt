@@ -7,10 +7,9 @@ use native.Mathlib.Omega.{arith}
 use base.Fml.{Lft}
 use denote.Ref.{RefT}
 use lib.ListN.{take, replicate}
-use Rattle.rules.specs.Cut.{Complete, Cut, run}
+use Rattle.rules.specs.Cut.{Cut, run}
 use Rattle.rules.specs.Questions.{isCount, isOn}
 use Rattle.rules.specs.Sets.{has, members}
-use Rattle.rules.specs.Site.{Call, openS}
 use Rattle.local.specs.Asked.{requestedBy, startedBy}
 use Rattle.channel.specs.Words.{itemOf, messageWord}
 use Rattle.channel.specs.Channels.{pushed, movedDown, popped, allFree, requestedAll}
@@ -37,7 +36,6 @@ use Rattle.journal.specs.Writing.{sameLocal, sameChannel, sameZones, sameChanne
 use Rattle.recording.specs.Call.{noRequests, recordCall}
 use Rattle.recording.specs.Layout.{itemWords, recordingBytes}
 use Rattle.recording.specs.Shown.{shownIn}
-use Rattle.demand.specs.Demand.{Demand}
 use Rattle.demand.specs.Made.{Opened, Answered, Made, done, then, Recorded}
 use Rattle.demand.proofs.Three.{demand-three}
 

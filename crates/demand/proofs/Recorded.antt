@@ -2,7 +2,7 @@
 use mathlib.Core.Path.{_≡_, refl, sym, _∙_, ap, ap₂, subst}
 use mathlib.Core.Bool.{Bool, true, false, cond, false≢true}
 use mathlib.Core.Logic.{inl, inr}
-use mathlib.Core.List.{List, [], _∷_, _++_, append-nil}
+use mathlib.Core.List.{List, [], _∷_, append-nil}
 use Prim.Native.Nat.{ℕ, _≤_, _<_}
 use native.Mathlib.Omega.{arith}
 use borrow.Author.Tests.{le-leb, leb-false, ltb-true}
@@ -10,9 +10,8 @@ use lib.Dec.{leb, ltb}
 use lib.Seq.{take-append-seam}
 use lib.ListN.{length, take, drop}
 use Rattle.rules.specs.Change.{cons-if}
-use Rattle.rules.specs.Cut.{Complete, Cut, run, present, snapshot}
-use Rattle.rules.specs.Questions.{question, ask}
-use Rattle.rules.specs.Site.{Site, Call, openS}
+use Rattle.rules.specs.Cut.{Cut, run, present, snapshot}
+use Rattle.rules.specs.Site.{Site, Call}
 use Rattle.rules.specs.Zone.{isPermanent, opened}
 use Rattle.run.specs.Calls.{openCall}
 use Rattle.run.specs.Claims.{Among, AllTyped, WholeRun, recordOf, acceptedRecords}
@@ -21,11 +20,9 @@ use Rattle.run.specs.Model.{siteOf, stocksOf}
 use Rattle.run.specs.State.{zoneAt, hasStarted}
 use Rattle.run.proofs.BelowLaws.{any-none}
 use Rattle.run.specs.declared.Run.{Run}
-use Rattle.run.proofs.Reach.{reach}
 use Rattle.run.proofs.Whole.{open-whole, after-whole}
-use Rattle.journal.specs.Format.{Record, call, decode}
+use Rattle.journal.specs.Format.{Record}
 use Rattle.journal.specs.Writing.{isReplayed, Output, refusedOutput, writtenOutput}
-use Rattle.journal.specs.declared.Written.{Written}
 use Rattle.journal.proofs.Replays.{named}
 use Rattle.journal.proofs.TrueRuns.{true-tells, true-replayed}
 use Rattle.journal.proofs.Words.{decode-record}

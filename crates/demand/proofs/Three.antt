@@ -1,12 +1,11 @@
 -- Demand 3, whole, over the contracts of the functions themselves. Assumes nothing.
-use mathlib.Core.Path.{_≡_, refl, sym, _∙_, ap, subst}
+use mathlib.Core.Path.{_≡_, sym, _∙_, ap, subst}
 use mathlib.Core.List.{List}
 use Prim.Native.Nat.{ℕ}
 use base.Fml.{Lft}
 use denote.Ref.{RefT}
 use Rattle.rules.specs.Site.{Call}
 use Rattle.run.specs.Calls.{openCall}
-use Rattle.run.specs.Claims.{AllTyped}
 use Rattle.run.specs.Lists.{SiteCall, after, acceptedCalls}
 use Rattle.run.specs.Model.{stocksOf}
 use Rattle.run.specs.declared.Answer.{Answer}

@@ -1,15 +1,14 @@
 -- No car is held twice and none is dropped: the recorded stocks and lines, as the bytes written show them, have the cars of the opening.
 -- Assumes nothing.
-use mathlib.Core.Path.{_≡_, refl, sym, _∙_, ap, ap₂, subst}
+use mathlib.Core.Path.{_≡_, refl, _∙_, ap, subst}
 use mathlib.Core.Bool.{Bool, true, false}
 use mathlib.Core.List.{List, [], _∷_}
-use Prim.Native.Nat.{ℕ, _<_}
+use Prim.Native.Nat.{ℕ}
 use lib.ListN.{take}
 use Rattle.rules.specs.Below.{sumBelow}
 use Rattle.rules.specs.Change.{cons-if}
-use Rattle.rules.specs.Cut.{Snapshot, snapshot}
+use Rattle.rules.specs.Cut.{Snapshot}
 use Rattle.rules.specs.Park.{total}
-use Rattle.rules.specs.Site.{Call}
 use Rattle.rules.proofs.Conservation.{Between, recorded-total}
 use Rattle.rules.proofs.Lists.{All}
 use Rattle.run.specs.Calls.{openCall}
@@ -17,7 +16,7 @@ use Rattle.run.specs.Claims.{AllTyped}
 use Rattle.run.specs.Lists.{SiteCall, Send, Receive, Start, answer, isAccepted, callOf, after, acceptedCalls}
 use Rattle.run.specs.Model.{stocksOf}
 use Rattle.run.specs.declared.Run.{Run}
-use Rattle.run.proofs.Outcome.{Pair, sited, passed}
+use Rattle.run.proofs.Outcome.{sited, passed}
 use Rattle.run.proofs.Reach.{reach}
 use Rattle.journal.proofs.TrueRuns.{after-kept, true-tells}
 use Rattle.recording.specs.Call.{recordCall}

@@ -1,5 +1,4 @@
 -- Calls made one after another on one run, each known by its function's contract alone.
-use mathlib.Core.Bool.{Bool}
 use mathlib.Core.List.{List, [], _∷_}
 use Prim.Native.Nat.{ℕ}
 use lib.Dec.{eqb}

@@ -1,10 +1,10 @@
 -- The rules of a request and of a start, with what is sent. "The zone part ... answers the set to be sent requests and the set these
 -- carry, both empty when no request is sent."
-use mathlib.Core.Bool.{Bool, true, false, cond}
+use mathlib.Core.Bool.{cond}
 use Prim.Native.Nat.{ℕ}
 use lib.Dec.{eqb}
 use Rattle.rules.specs.Sets.{nobody}
-use Rattle.rules.specs.Zone.{isPermanent, requested, started, asked, carried, withCheckpoint, saved}
+use Rattle.rules.specs.Zone.{isPermanent, requested, started, asked, carried, withCheckpoint}
 use Rattle.rules.specs.declared.Local.{Local}
 use Rattle.rules.specs.declared.Saved.{Saved}
 use Rattle.rules.specs.declared.Checkpoint.the-variants.{Permanent}

@@ -1,6 +1,6 @@
 -- The recording's layout: "a header word, edition (3), zones minus one (3), number of items on lines (10); for each zone a word with firm
 -- (1 bit), zero (5), events (10), then a word of stock; then each item as a kind 0 record, by sender, then receiver, then order sent."
-use mathlib.Core.Bool.{Bool, cond}
+use mathlib.Core.Bool.{cond}
 use mathlib.Core.List.{List, [], _∷_, _++_, map}
 use Prim.Native.Nat.{ℕ, zero, suc, _+_, _*_, _/_, _%_}
 use lib.ListN.{length}

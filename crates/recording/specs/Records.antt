@@ -1,6 +1,6 @@
 -- The items of a recording by the journal's records and their own-event numbers: what the code counts, shown in proofs/ to be the items of
 -- the rules.
-use mathlib.Core.Bool.{Bool, true, false, _&&_, cond}
+use mathlib.Core.Bool.{Bool, _&&_}
 use mathlib.Core.List.{List, [], _∷_}
 use Prim.Native.Nat.{ℕ, suc, _+_, _/_, _%_}
 use lib.Dec.{leb, eqb}

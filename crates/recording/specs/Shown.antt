@@ -1,5 +1,5 @@
 -- What the bytes of a recording show: "The recorded zones (those shown firm), events, stocks and lines are those in the bytes it writes."
-use mathlib.Core.Bool.{Bool, true, false, _&&_, cond}
+use mathlib.Core.Bool.{Bool, _&&_, cond}
 use mathlib.Core.List.{List, [], _∷_}
 use Prim.Native.Nat.{ℕ, _+_, _*_, _/_, _%_}
 use lib.Dec.{leb, ltb, eqb}

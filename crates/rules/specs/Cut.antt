@@ -1,15 +1,13 @@
 -- Demand 3 over the rules: what is claimed of the accepted calls and of a recording of them.
 use mathlib.Core.Path.{_≡_}
 use mathlib.Core.Bool.{Bool, true, false}
-use mathlib.Core.Logic.{_⊎_}
 use mathlib.Core.List.{List, [], _∷_, _++_}
-use mathlib.Core.Option.{Option, none, some}
+use mathlib.Core.Option.{some}
 use Prim.Native.Nat.{ℕ, _≤_, _<_}
 use lib.ListN.{drop}
 use Rattle.rules.specs.Zone.{isMarked, isPermanent}
 use Rattle.rules.specs.Site.{Item, message, request, Site, Call, send, receive, start, stepS, openS, waits}
 use Rattle.rules.specs.Park.{Park, Move, hand, take, emptyPark, replay, own, inside, outside, hands, takes}
-use Rattle.rules.specs.declared.Saved.{Saved}
 use Rattle.rules.specs.declared.Checkpoint.{Checkpoint}
 use Rattle.rules.specs.declared.Checkpoint.the-variants.{None, Mutable, Permanent}
 

@@ -1,5 +1,5 @@
 -- Sets of zones. A zone's index is its number less one; a set is a number in which the zone at index i is the bit of weight 2 ^ i.
-use mathlib.Core.Bool.{Bool, true, false, cond}
+use mathlib.Core.Bool.{Bool, cond}
 use mathlib.Core.List.{List, [], _∷_, _++_}
 use Prim.Native.Nat.{ℕ, zero, suc, _/_, _%_, _^_}
 use lib.Dec.{eqb, ltb}

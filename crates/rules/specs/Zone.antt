@@ -2,7 +2,7 @@
 use mathlib.Core.Bool.{Bool, true, false, cond}
 use Prim.Native.Nat.{ℕ, _+_, _-_}
 use lib.Dec.{eqb}
-use Rattle.rules.specs.Sets.{nobody, only, union, difference}
+use Rattle.rules.specs.Sets.{only, union, difference}
 use Rattle.rules.specs.declared.Local.{Local}
 use Rattle.rules.specs.declared.Saved.{Saved}
 use Rattle.rules.specs.declared.Checkpoint.{Checkpoint}

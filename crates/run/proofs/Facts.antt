@@ -1,26 +1,25 @@
 -- What a yes to question 1 says of a run's parts. Assumes nothing.
-use mathlib.Core.Path.{_≡_, refl, sym, _∙_, ap, subst}
-use mathlib.Core.Bool.{Bool, true, false, _&&_, _||_, not, cond, false≢true}
-use mathlib.Core.Logic.{_≢_, _⊎_, inl, inr, ⊎-elim}
+use mathlib.Core.Path.{_≡_, _∙_, ap}
+use mathlib.Core.Bool.{Bool, true, _&&_, _||_, not, cond}
+use mathlib.Core.Logic.{_≢_, _⊎_, ⊎-elim}
 use mathlib.Core.List.{List, [], _∷_, map}
 use Prim.Native.Nat.{ℕ, zero, suc, _+_, _-_, _*_, _/_, _%_, _^_, _<_, _≤_}
 use native.Mathlib.Nat.{eq-or-lt-of-le, le-of-suc-le-suc}
 use native.Mathlib.Omega.{arith}
 use lib.Dec.{leb, ltb, eqb}
 use lib.ListN.{getD, take, drop}
-use lib.Pow.{pow-pos, pow-mono}
+use lib.Pow.{pow-pos}
 use lib.Seq.{getD-take, getD-drop}
 use borrow.Author.Tests.{leb-true, ltb-true, lt-ltb, ne-eqb}
-use Rattle.rules.specs.Questions.{isCount, isOn}
+use Rattle.rules.specs.Questions.{isCount}
 use Rattle.rules.specs.Sets.{within}
-use Rattle.rules.specs.Site.{Item, message, request}
 use Rattle.rules.specs.declared.Local.{Local}
 use Rattle.rules.proofs.QuestionLaws.{count-low, count-high}
 use Rattle.rules.proofs.Tests.{and-left, and-right}
 use Rattle.channel.specs.Words.{itemOf, carsIn, setIn}
 use Rattle.channel.specs.Channels.{place, lenOf, wordsOn, itemsOn, firstOf}
 use Rattle.channel.specs.declared.Channels.{Channels}
-use Rattle.rules.specs.Below.{allBelow, sumBelow}
+use Rattle.rules.specs.Below.{sumBelow}
 use Rattle.run.proofs.BelowLaws.{all-at}
 use Rattle.run.specs.State.{zoneAt, isChannel, zoneSound, zonesSound, setsWithin, channelSound, channelsSound, carsOf, stocks, carsOnChannels, partsSound}
 

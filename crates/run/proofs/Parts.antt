@@ -1,15 +1,14 @@
 -- Question 1 as facts: a run is sound exactly when the site that it stands for is within the bounds. Assumes nothing.
 use mathlib.Core.Path.{_≡_, refl, sym, _∙_, ap, ap₂, subst}
-use mathlib.Core.Bool.{Bool, true, false, cond, _&&_, _||_, not, false≢true}
+use mathlib.Core.Bool.{Bool, true, false, cond, _&&_, _||_, not}
 use mathlib.Core.Logic.{_≢_}
 use mathlib.Core.List.{[]}
 use Prim.Native.Nat.{ℕ, _+_, _*_, _/_, _%_, _^_, _≤_, _<_}
 use native.Mathlib.Omega.{arith}
-use lib.Dec.{eqb, leb, ltb}
-use borrow.Author.Tests.{leb-true, ltb-true, eqb-false, not-true, lt-ltb, le-leb, ne-eqb}
+use lib.Dec.{eqb, ltb}
+use borrow.Author.Tests.{ltb-true, eqb-false, not-true, lt-ltb, le-leb}
 use Rattle.rules.specs.Limits.{mostZones, mostCars, mostRecords, places}
 use Rattle.rules.specs.Questions.{isCount}
-use Rattle.rules.specs.Sets.{within}
 use Rattle.rules.specs.Site.{Site}
 use Rattle.rules.specs.declared.Local.{Local}
 use Rattle.rules.proofs.Tests.{and-left, and-right}

@@ -36,7 +36,7 @@ use Rattle.run.specs.declared.Run.{Run}
 use Rattle.run.specs.declared.Answer.{Answer}
 use Rattle.run.proofs.Outcome.{Sited, sited, Asks, channelsAfter, granted, Passed, Refused, outcome, Opened, NotOpened, open-outcome}
 use Rattle.run.proofs.BelowLaws.{split}
-use Rattle.run.proofs.Parts.{onSite, between, on-site, stocksS, carsS, SoundRun, parts, sound}
+use Rattle.run.proofs.Parts.{onSite, between, on-site, SoundRun, parts, sound}
 use Rattle.run.proofs.SetBounds.{carried-lt}
 use Rattle.run.proofs.Whole.{call-whole, open-whole}
 use Rattle.run.proofs.Refine.{popped-free, refine, none-at, opened-site}

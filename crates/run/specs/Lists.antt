@@ -1,6 +1,6 @@
 -- Lists of calls on one run: "The first gets the run that the opening handed back, each later one the run that the call before it handed
 -- back, after a refusal too."
-use mathlib.Core.Bool.{Bool, true, false, cond, _&&_}
+use mathlib.Core.Bool.{Bool, cond, _&&_}
 use mathlib.Core.List.{List, [], _∷_, _++_}
 use Prim.Native.Nat.{ℕ}
 use lib.Dec.{eqb}

@@ -1,5 +1,5 @@
 -- A run as a site of the rules: zones and channels that the run's site does not have are those of an opening with stock 0.
-use mathlib.Core.Bool.{Bool, true, false, cond, _&&_}
+use mathlib.Core.Bool.{cond, _&&_}
 use mathlib.Core.List.{List, []}
 use Prim.Native.Nat.{ℕ}
 use lib.Dec.{ltb}

@@ -1,9 +1,9 @@
 -- The state of a run, and question 1 in the form that hand-over, receipt and start ask.
-use mathlib.Core.Bool.{Bool, true, false, not, _&&_, _||_, cond}
-use mathlib.Core.List.{List, [], _∷_, _++_}
+use mathlib.Core.Bool.{Bool, true, not, _&&_, _||_, cond}
+use mathlib.Core.List.{List, [], _∷_}
 use Prim.Native.Nat.{ℕ, _+_, _-_, _*_, _/_, _%_}
 use lib.Dec.{leb, ltb, eqb}
-use lib.ListN.{getD, set, replicate}
+use lib.ListN.{getD, replicate}
 use Rattle.rules.specs.Limits.{mostZones, mostCars, mostRecords, places}
 use Rattle.rules.specs.Questions.{isCount}
 use Rattle.rules.specs.Sets.{within}

@@ -1,17 +1,16 @@
 -- What the steps' answers rest on: readiness gives bounds, and each question's answer gives the call's. Assumes nothing.
-use mathlib.Core.Path.{_≡_, refl, sym, _∙_, ap, subst}
+use mathlib.Core.Path.{_≡_, refl, sym, _∙_, subst}
 use mathlib.Core.Bool.{Bool, true, false, not, _&&_}
 use mathlib.Core.Logic.{_≢_}
-use mathlib.Core.List.{List, [], _∷_}
-use Prim.Native.Nat.{ℕ, _+_, _-_, _*_, _^_, _<_, _≤_}
+use mathlib.Core.List.{List}
+use Prim.Native.Nat.{ℕ, _+_, _-_, _<_, _≤_}
 use native.Mathlib.Omega.{arith}
-use borrow.Author.Tests.{not-true, not-false, lt-ltb, le-ltb, le-leb, lt-leb, eq-eqb, ne-eqb, eqb-false}
+use borrow.Author.Tests.{lt-ltb, le-ltb, le-leb, lt-leb, eq-eqb, ne-eqb, eqb-false}
 use lib.Dec.{eqb}
-use lib.ListN.{set, getD}
+use lib.ListN.{set}
 use lib.Pow.{pow-mono}
 use lib.Seq.{set-getD}
 use Rattle.rules.specs.Questions.{index, isOn}
-use Rattle.rules.specs.Sets.{only}
 use Rattle.rules.specs.Zone.{isMarked, sent}
 use Rattle.rules.specs.declared.Local.{Local}
 use Rattle.rules.proofs.QuestionLaws.{on-low, on-high}
@@ -27,7 +26,7 @@ use Rattle.run.specs.Layout.{sendRecord, receiveRecord, startRecord}
 use Rattle.run.specs.State.{runAs, zoneAt, noLocal, isSound, isChannel, hasStarted}
 use Rattle.run.specs.declared.Answer.{Answer}
 use Rattle.run.specs.declared.Run.{Run}
-use Rattle.run.proofs.Facts.{channel-at, place-lt, sound-high, sound-records, sound-events, sound-deps, sound-length, sound-first, sound-room}
+use Rattle.run.proofs.Facts.{sound-high, sound-events, sound-first, sound-room}
 use Rattle.steps.specs.Ready.{Ready, answerAs, refusedBy}
 use Rattle.steps.specs.declared.Acted.{Acted}
 

@@ -1,11 +1,9 @@
 -- What the sets of an accepted step say: the zone itself is never asked, and there are as many requests as zones in the set. Assumes
 -- nothing.
-use mathlib.Core.Path.{_≡_, refl, sym, _∙_, ap}
-use mathlib.Core.Bool.{Bool, true, false, not, _&&_, _||_, cond, and-false}
+use mathlib.Core.Path.{_≡_, refl, _∙_}
+use mathlib.Core.Bool.{Bool, true, false, not, _&&_, _||_}
 use Prim.Native.Nat.{ℕ, _<_}
-use lib.Dec.{eqb}
 use lib.ListN.{length}
-use Rattle.rules.specs.Questions.{index}
 use Rattle.rules.specs.Sets.{has, members, size}
 use Rattle.rules.specs.Zone.{isPermanent, asked}
 use Rattle.rules.specs.declared.Local.{Local}

@@ -1,13 +1,9 @@
 -- What the zone part's tests say of numbers, and a call's negated test of its callee's meaning. Assumes nothing.
-use mathlib.Core.Path.{_≡_, refl, sym, _∙_}
-use mathlib.Core.Bool.{Bool, true, false, not, _&&_, and-eq-true-iff}
-use mathlib.Core.Logic.{_⊎_, inl, inr, ⊎-elim}
-use Prim.Native.Nat.{ℕ, _*_, _/_, _^_, _<_, _≤_}
-use native.Mathlib.Nat.{div-eq-of-lt, div-lt-iff-lt-mul}
+use mathlib.Core.Path.{_≡_}
+use mathlib.Core.Bool.{true, not, _&&_, and-eq-true-iff}
+use Prim.Native.Nat.{ℕ, _≤_}
 use native.Mathlib.Omega.{arith}
-use borrow.Author.Tests.{not-true, not-false, leb-true, ltb-true, ltb-false, eq-eqb, ne-eqb}
-use lib.Dec.{eqb, leb, ltb}
-use lib.Pow.{pow-pos}
+use lib.Dec.{eqb, leb}
 use Rattle.rules.specs.Sets.{within}
 use Rattle.rules.specs.Questions.{isCount, isOn}
 use Rattle.rules.proofs.QuestionLaws.{count-high, on-low, on-high}

@@ -1,7 +1,7 @@
 -- The zone part: one zone's state and its steps. Document 01, from "The zone part has the same steps without lines".
-use mathlib.Core.Bool.{Bool, true, false, not, _&&_, cond}
-use mathlib.Core.List.{List, [], _∷_}
-use Prim.Native.Nat.{ℕ, _+_, _-_}
+use mathlib.Core.Bool.{Bool, false, not, _&&_, cond}
+use mathlib.Core.List.{[], _∷_}
+use Prim.Native.Nat.{ℕ, _+_}
 use lib.Dec.{leb, ltb, eqb}
 use lib.Count.{trailingZeros}
 use Rattle.rules.specs.Limits.{mostZones, mostCars, mostRecords}

@@ -1,10 +1,9 @@
 -- The zone part over a plain struct: each call is the zone part's step between two conversions.
 use mathlib.Core.Bool.{Bool, true, false, cond, not}
 use Prim.Native.Nat.{ℕ}
-use lib.Dec.{leb, ltb, eqb}
+use lib.Dec.{ltb, eqb}
 use Rattle.rules.specs.declared.Checkpoint.{Checkpoint}
 use Rattle.rules.specs.declared.Checkpoint.the-variants.{None, Mutable, Permanent}
-use Rattle.rules.specs.declared.Saved.{Saved}
 use Rattle.zone.specs.Zone.{openZone, sendStep, receiveStep, requestStep, startStep}
 use Rattle.zone.specs.declared.Step.{Step}
 use Rattle.zone.specs.declared.Zone.{Zone}

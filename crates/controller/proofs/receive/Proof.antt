@@ -1,7 +1,7 @@
 -- `controller::receive` meets its contract: a walk of its MIR, by hand. The borrow is opened, the zone is copied and passed to the step by value,
 -- and the borrow is closed at the zone that the step answers. The walk is that of each call that lends a zone, at this call's parameters.
 -- Assumes nothing.
-use mathlib.Core.Path.{_≡_, refl, ap, subst}
+use mathlib.Core.Path.{_≡_, refl, ap}
 use mathlib.Core.Bool.{Bool}
 use Prim.Native.Nat.{ℕ, _<_, _^_}
 use mathlib.Core.List.{[], _∷_, List}

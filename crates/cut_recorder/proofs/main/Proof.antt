@@ -3,49 +3,34 @@ use Rattle.report.proofs.Within.{prints-within, prints-taken}
 use borrow.Author.Needs.{needs}
 use Rattle.cut_recorder.proofs.main.Statement.{statement}
 use Rattle.cut_recorder.proofs.main.Tie as tie
-use Rattle.cut_recorder.proofs.main.Reads as reads
-use Rattle.cut_recorder.proofs.main.Lts as lts
-use Rattle.io.proofs.read_full.Reads as read-full-reads
-use Rattle.io.proofs.write_all.Reads as write-all-reads
-use Rattle.report.proofs.report.Reads as report-reads
 
--- src/main.rt:8:41
 slice-aggregate-read-full : tie.Need-slice-aggregate-read-full
 slice-aggregate-read-full c = search needs
 
--- src/main.rt:8:9
 read-full-requires : tie.Need-read-full-requires
 read-full-requires c κs = search needs
 
--- src/main.rt:10:28
 array-share-prefix-input : tie.Need-array-share-prefix-input
 array-share-prefix-input c = search needs
 
--- src/main.rt:10:28
 slice-aggregate-report : tie.Need-slice-aggregate-report
 slice-aggregate-report c = search needs
 
--- src/main.rt:10:41
 slice-aggregate-report-2 : tie.Need-slice-aggregate-report-2
 slice-aggregate-report-2 c = search needs
 
--- src/main.rt:10:9
 report-requires : tie.Need-report-requires
 report-requires c κs = search needs
 
--- src/main.rt:11:34
 array-share-prefix-out : tie.Need-array-share-prefix-out
 array-share-prefix-out c = prints-within _ _ _ _ (c .before .report .ensures)
 
--- src/main.rt:11:34
 slice-aggregate-write-all : tie.Need-slice-aggregate-write-all
 slice-aggregate-write-all c = prints-taken _ _ _ _ (c .before .before .report .ensures)
 
--- src/main.rt:11:5
 write-all-requires : tie.Need-write-all-requires
 write-all-requires c κs = search needs
 
--- src/main.rt:6:1
 returns : tie.Need-returns
 returns c = search needs
 

@@ -3,10 +3,7 @@ use mathlib.Core.Path.{refl}
 use Rattle.rules.specs.Questions.{isCount}
 use Rattle.questions.proofs.is_count.Statement.{statement}
 use Rattle.questions.proofs.is_count.Tie as tie
-use Rattle.questions.proofs.is_count.Reads as reads
-use Rattle.questions.proofs.is_count.Lts as lts
 
--- src/lib.rt:12:1
 returns : tie.Need-returns
 unfolding isCount
 returns c = refl

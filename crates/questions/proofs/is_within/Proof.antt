@@ -7,18 +7,13 @@ use Rattle.questions.proofs.Laws.{shift-test}
 use borrow.Author.Needs.{needs}
 use Rattle.questions.proofs.is_within.Statement.{statement}
 use Rattle.questions.proofs.is_within.Tie as tie
-use Rattle.questions.proofs.is_within.Reads as reads
-use Rattle.questions.proofs.is_within.Lts as lts
 
--- src/lib.rt:30:9
 returns : tie.Need-returns
 returns c = sym (lt-ltb _ _ (lt-of-lt-of-le (c .before .fits .set .fits) (pow-mono (c .if1 .taken))))
 
--- src/lib.rt:32:5
 shr-result : tie.Need-shr-result
 shr-result c = search needs
 
--- src/lib.rt:26:1
 returns-2 : tie.Need-returns-2
 returns-2 c = shift-test (c .before .args .set) (c .before .args .count)
 

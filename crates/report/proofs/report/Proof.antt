@@ -1,85 +1,61 @@
 -- `report::report` meets its contract: the refusal of the journal, that of the recording, or the recording. Assumes nothing.
-use mathlib.Core.Path.{_≡_, refl, sym, _∙_, ap}
-use mathlib.Core.List.{List}
-use Prim.Native.Nat.{ℕ, _-_, _<_, _≤_}
+use mathlib.Core.Path.{ap}
+use Prim.Native.Nat.{ℕ, _-_}
 use native.Mathlib.Numerals.{unary-clauses}
 use native.Mathlib.Omega.{arith}
-use borrow.Author.Tests.{eq-eqb, ne-eqb}
-use lib.ListN.{length, take, replicate, length-replicate}
+use lib.ListN.{replicate, length-replicate}
 use Rattle.journal.specs.declared.Written.{Written}
-use Rattle.report.specs.Report.{reportText, readingText, outputText}
 use Rattle.report.proofs.Laws.{refused-read, refused-recording, recording-shown, written-fits}
 use borrow.Author.Needs.{needs}
 use Rattle.report.proofs.report.Statement.{statement}
 use Rattle.report.proofs.report.Tie as tie
-use Rattle.report.proofs.report.Reads as reads
-use Rattle.report.proofs.report.Lts as lts
-use Rattle.reader.proofs.read.Reads as read-reads
-use Rattle.recorder.proofs.record.Reads as record-reads
-use Rattle.text.proofs.refused.Reads as refused-reads
-use Rattle.text.proofs.shown.Reads as shown-reads
 
--- src/lib.rt:9:9
 read-requires : tie.Need-read-requires
 read-requires c κs = search needs
 
--- src/lib.rt:11:9
 refused-requires : tie.Need-refused-requires
 refused-requires c κs = search needs
 
--- src/lib.rt:11:9
 same-length : tie.Need-same-length
 same-length c = search needs
 
--- src/lib.rt:11:9
 returns : tie.Need-returns
 returns c = refused-read _ _ _ _ _ (c .before .before .before .before .before .before .read .ensures) (c .before .before .before .before .if1 .taken) (c .before .before .refused .ensures)
 
--- src/lib.rt:15:38
 slice-aggregate-record : tie.Need-slice-aggregate-record
 slice-aggregate-record c = search needs
 
--- src/lib.rt:15:9
 record-requires : tie.Need-record-requires
 record-requires c κs = search needs
 
--- src/lib.rt:17:9
 refused-requires-2 : tie.Need-refused-requires-2
 refused-requires-2 c κs = search needs
 
--- src/lib.rt:17:9
 same-length-2 : tie.Need-same-length-2
 same-length-2 c = search needs
 
--- src/lib.rt:17:9
 returns-2 : tie.Need-returns-2
 returns-2 c =
     refused-recording _ _ _ _ _ (c .before .before .before .before .before .before .before .before .before .before .before .before .read .ensures) (c .before .before .before .before .before .before .before .before .before .before .if1 .left) _ (c .before .before .before .before .before .before .before .«record» .ensures .0) (c .before .before .before .before .if2 .taken) (c .before .before .refused2 .ensures)
 
--- src/lib.rt:20:17
 sub-shown : tie.Need-sub-shown
 sub-shown c = search needs
 
--- src/lib.rt:20:17
 part-shown-start : tie.Need-part-shown-start
 part-shown-start c = search needs
 
--- src/lib.rt:20:17
 part-shown-end : tie.Need-part-shown-end
 part-shown-end c =
     let w = c .before .before .before .before .«record» .ensures .0 in
     let f = written-fits (c .before .before .before .before .before .before .before .before .before .read .result .run) (replicate 2034 0) in
     omega (arith, ap (λ (x : Written). x .written) w, f, length-replicate {A = ℕ} 2034 0)
 
--- src/lib.rt:20:5
 shown-requires : tie.Need-shown-requires
 shown-requires c κs = search needs
 
--- src/lib.rt:6:1
 same-length-3 : tie.Need-same-length-3
 same-length-3 c = search needs
 
--- src/lib.rt:6:1
 returns-3 : tie.Need-returns-3
 returns-3 c =
     recording-shown _ _ _ _ _ (c .before .before .before .before .before .before .before .before .before .before .before .before .before .before .read .ensures) (c .before .before .before .before .before .before .before .before .before .before .before .before .if1 .left) _ _ (c .before .before .before .before .before .before .before .before .before .«record» .ensures .0) (c .before .before .before .before .before .before .before .before .before .«record» .ensures .1) (c .before .before .before .before .before .before .if2 .left)

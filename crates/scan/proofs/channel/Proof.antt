@@ -1,23 +1,18 @@
 -- `scan::channel` meets its contract, by what the items before the next one add up to. Assumes nothing.
-use mathlib.Core.Path.{_≡_, refl, sym, _∙_, ap}
-use mathlib.Core.Bool.{Bool, _&&_}
+use mathlib.Core.Path.{_≡_, refl, sym}
+use mathlib.Core.Bool.{_&&_}
 use mathlib.Core.List.{map}
-use Prim.Native.Nat.{ℕ, _+_, _-_, _*_, _<_, _≤_, min}
-use native.Mathlib.Numerals.{add-one}
+use Prim.Native.Nat.{_-_, _*_, _<_, _≤_, min}
 use native.Mathlib.Omega.{arith}
 use borrow.Author.Needs.{needs}
 use lib.Dec.{leb}
-use lib.ListN.{take, getD}
+use lib.ListN.{take}
 use Rattle.channel.specs.Words.{itemOf}
 use Rattle.channel.specs.Channels.{channelsAs, wordsOn, lenOf}
 use Rattle.run.specs.State.{setsWithin, carsOf, channelSound}
 use Rattle.scan.proofs.Laws.{and-true, sound-item, cars-item, all-words}
 use Rattle.scan.proofs.channel.Statement.{statement}
 use Rattle.scan.proofs.channel.Tie as tie
-use Rattle.scan.proofs.channel.Reads as reads
-use Rattle.scan.proofs.channel.Lts as lts
-use Rattle.scan.proofs.item.Reads as item-reads
-use Rattle.scan.proofs.looked_at.Reads as looked-at-reads
 
 abbrev Inv-loop : tie.InvT-loop
 Inv-loop count items lens k len n sound₀ cars₀ p₀ sound cars p =
@@ -28,51 +23,39 @@ Inv-loop count items lens k len n sound₀ cars₀ p₀ sound cars p =
 abbrev μ-loop : tie.MeasureT-loop
 μ-loop count items lens k len n sound₀ cars₀ p₀ sound cars p = n - p
 
--- src/lib.rt:78:15
 element-copy-out-len : tie.Need-element-copy-out-len Inv-loop μ-loop
 element-copy-out-len c = search needs
 
--- src/lib.rt:79:9
 looked-at-requires : tie.Need-looked-at-requires Inv-loop μ-loop
 looked-at-requires c κs = search needs
 
--- src/lib.rt:83:5
 loop-holds : tie.Need-loop-holds Inv-loop μ-loop
 loop-holds c = (omega arith, sym (and-true _), refl, omega arith)
 
--- src/lib.rt:84:26
 mul-word : tie.Need-mul-word Inv-loop μ-loop
 mul-word c = search needs
 
--- src/lib.rt:84:26
 add-word : tie.Need-add-word Inv-loop μ-loop
 add-word c = search needs
 
--- src/lib.rt:84:20
 mul-word-2 : tie.Need-mul-word-2 Inv-loop μ-loop
 mul-word-2 c = search needs
 
--- src/lib.rt:84:20
 element-copy-out-word : tie.Need-element-copy-out-word Inv-loop μ-loop
 element-copy-out-word c = search needs
 
--- src/lib.rt:85:13
 item-requires : tie.Need-item-requires Inv-loop μ-loop
 item-requires c κs = search needs
 
--- src/lib.rt:87:9
 add-cars : tie.Need-add-cars Inv-loop μ-loop
 add-cars c = search needs
 
--- src/lib.rt:88:9
 add-p : tie.Need-add-p Inv-loop μ-loop
 add-p c = search needs
 
--- src/lib.rt:83:5
 loop-less : tie.Need-loop-less Inv-loop μ-loop
 loop-less c = search needs
 
--- src/lib.rt:83:5
 loop-again : tie.Need-loop-again Inv-loop μ-loop
 loop-again c =
     let b = c .before .before .before .before .before in
@@ -85,7 +68,6 @@ loop-again c =
       omega (arith, c .before .before .item .ensures .2, b .loop .inv .3),
     )
 
--- src/lib.rt:70:1
 returns : tie.Need-returns Inv-loop μ-loop
 unfolding channelSound
 returns c =

@@ -7,27 +7,19 @@ use Rattle.run.specs.State.{isChannel}
 use borrow.Author.Needs.{needs}
 use Rattle.scan.proofs.channel_at.Statement.{statement}
 use Rattle.scan.proofs.channel_at.Tie as tie
-use Rattle.scan.proofs.channel_at.Reads as reads
-use Rattle.scan.proofs.channel_at.Lts as lts
-use Rattle.scan.proofs.channel.Reads as channel-reads
-use Rattle.scan.proofs.is_channel.Reads as is-channel-reads
 
--- src/lib.rt:101:9
 is-channel-requires : tie.Need-is-channel-requires
 is-channel-requires c κs = search needs
 
--- src/lib.rt:102:9
 returns : tie.Need-returns
 returns c =
     let a = c .before .before .args in
     let e : isChannel (a .count) (a .k) ≡ false = sym (c .before .is-channel .ensures) ∙ not-true _ (c .if1 .taken) in
     rw e (refl, refl, omega arith)
 
--- src/lib.rt:107:5
 channel-requires : tie.Need-channel-requires
 channel-requires c κs = search needs
 
--- src/lib.rt:93:1
 returns-2 : tie.Need-returns-2
 returns-2 c =
     let a = c .before .before .before .args in

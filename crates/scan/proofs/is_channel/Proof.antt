@@ -3,10 +3,7 @@ use mathlib.Core.Path.{refl}
 use Rattle.run.specs.State.{isChannel}
 use Rattle.scan.proofs.is_channel.Statement.{statement}
 use Rattle.scan.proofs.is_channel.Tie as tie
-use Rattle.scan.proofs.is_channel.Reads as reads
-use Rattle.scan.proofs.is_channel.Lts as lts
 
--- src/lib.rt:27:1
 returns : tie.Need-returns
 unfolding isChannel
 returns c = refl

@@ -1,6 +1,6 @@
 -- `scan::is_sound` meets its contract. Assumes nothing.
-use mathlib.Core.Path.{_≡_, refl, sym, _∙_}
-use mathlib.Core.Bool.{true, false}
+use mathlib.Core.Path.{_≡_, sym, _∙_}
+use mathlib.Core.Bool.{true}
 use native.Mathlib.Omega.{arith}
 use borrow.Author.Needs.{needs}
 use borrow.Author.Tests.{not-true, not-false}
@@ -9,37 +9,26 @@ use Rattle.rules.proofs.QuestionLaws.{count-high}
 use Rattle.run.specs.State.{partsSound}
 use Rattle.scan.proofs.is_sound.Statement.{statement}
 use Rattle.scan.proofs.is_sound.Tie as tie
-use Rattle.scan.proofs.is_sound.Reads as reads
-use Rattle.scan.proofs.is_sound.Lts as lts
-use Rattle.questions.proofs.is_count.Reads as is-count-reads
-use Rattle.scan.proofs.channels.Reads as channels-reads
-use Rattle.scan.proofs.zones_of.Reads as zones-of-reads
 
--- src/lib.rt:156:9
 is-count-requires : tie.Need-is-count-requires
 is-count-requires c κs = search needs
 
--- src/lib.rt:157:9
 returns : tie.Need-returns
 unfolding partsSound
 returns c = rw (sym (c .before .is-count .ensures) ∙ not-true _ (c .if1 .taken))
 
--- src/lib.rt:159:9
 zones-of-requires : tie.Need-zones-of-requires
 zones-of-requires c κs = count-high _ (sym (c .before .is-count .ensures) ∙ not-false _ (c .if1 .left))
 
--- src/lib.rt:160:9
 channels-requires : tie.Need-channels-requires
 channels-requires c κs = count-high _ (sym (c .before .before .is-count .ensures) ∙ not-false _ (c .before .if1 .left))
 
--- src/lib.rt:161:46
 add-result : tie.Need-add-result
 add-result c =
     record {
       fits = omega (arith, c .before .before .before .before .before .zones-of .ensures .2, c .before .before .before .before .channels .ensures .2);
     }
 
--- src/lib.rt:153:1
 returns-2 : tie.Need-returns-2
 unfolding partsSound
 returns-2 c =

@@ -1,7 +1,6 @@
 -- `scan::zones_of` meets its contract, by what the zones before the next one add up to. Assumes nothing.
-use mathlib.Core.Path.{_≡_, refl, sym, _∙_, ap}
-use mathlib.Core.Bool.{Bool, _&&_}
-use Prim.Native.Nat.{ℕ, _+_, _-_, _*_, _<_, _≤_}
+use mathlib.Core.Path.{_≡_, refl, _∙_}
+use Prim.Native.Nat.{_-_, _*_, _≤_}
 use native.Mathlib.Numerals.{add-one}
 use native.Mathlib.Omega.{arith}
 use borrow.Author.Needs.{needs}
@@ -10,9 +9,6 @@ use Rattle.run.specs.State.{zoneAt, zoneSound, zonesSound, stocks}
 use Rattle.scan.proofs.Laws.{all-to, sum-to}
 use Rattle.scan.proofs.zones_of.Statement.{statement}
 use Rattle.scan.proofs.zones_of.Tie as tie
-use Rattle.scan.proofs.zones_of.Reads as reads
-use Rattle.scan.proofs.zones_of.Lts as lts
-use Rattle.scan.proofs.zone.Reads as zone-reads
 
 abbrev Inv-loop : tie.InvT-loop
 Inv-loop count records zones sound₀ cars₀ i₀ sound cars i =
@@ -23,39 +19,30 @@ Inv-loop count records zones sound₀ cars₀ i₀ sound cars i =
 abbrev μ-loop : tie.MeasureT-loop
 μ-loop count records zones sound₀ cars₀ i₀ sound cars i = count - i
 
--- src/lib.rt:151:5
 loop-holds : tie.Need-loop-holds Inv-loop μ-loop
 loop-holds c = (omega arith, refl, refl, omega arith)
 
--- src/lib.rt:152:17
 mul-z : tie.Need-mul-z Inv-loop μ-loop
 mul-z c = search needs
 
--- src/lib.rt:152:17
 array-copy-out-z : tie.Need-array-copy-out-z Inv-loop μ-loop
 array-copy-out-z c = search needs
 
--- src/lib.rt:153:25
 zone-requires : tie.Need-zone-requires Inv-loop μ-loop
 zone-requires c κs = search needs
 
--- src/lib.rt:154:17
 cast-cars : tie.Need-cast-cars Inv-loop μ-loop
 cast-cars c = search needs
 
--- src/lib.rt:154:9
 add-cars : tie.Need-add-cars Inv-loop μ-loop
 add-cars c = search needs
 
--- src/lib.rt:155:9
 add-i : tie.Need-add-i Inv-loop μ-loop
 add-i c = search needs
 
--- src/lib.rt:151:5
 loop-less : tie.Need-loop-less Inv-loop μ-loop
 loop-less c = search needs
 
--- src/lib.rt:151:5
 loop-again : tie.Need-loop-again Inv-loop μ-loop
 loop-again c =
     let b = c .before .before .before .before in (
@@ -65,7 +52,6 @@ loop-again c =
       omega (arith, b .loop .inv .3),
     )
 
--- src/lib.rt:142:1
 returns : tie.Need-returns Inv-loop μ-loop
 unfolding zonesSound stocks
 returns c =

@@ -3,19 +3,13 @@ use Rattle.run.specs.Calls.{isPair}
 use borrow.Author.Needs.{needs}
 use Rattle.steps.proofs.is_pair.Statement.{statement}
 use Rattle.steps.proofs.is_pair.Tie as tie
-use Rattle.steps.proofs.is_pair.Reads as reads
-use Rattle.steps.proofs.is_pair.Lts as lts
-use Rattle.questions.proofs.is_on.Reads as is-on-reads
 
--- src/lib.rt:40:9
 is-on-requires : tie.Need-is-on-requires
 is-on-requires c κs = search needs
 
--- src/lib.rt:41:9
 is-on-requires-2 : tie.Need-is-on-requires-2
 is-on-requires-2 c κs = search needs
 
--- src/lib.rt:37:1
 returns : tie.Need-returns
 unfolding isPair
 returns c = rw (c .is-on2 .ensures, c .before .is-on .ensures)

@@ -4,19 +4,14 @@ use Rattle.channel.specs.Words.{messageWord}
 use borrow.Author.Needs.{needs}
 use Rattle.steps.proofs.message_word.Statement.{statement}
 use Rattle.steps.proofs.message_word.Tie as tie
-use Rattle.steps.proofs.message_word.Reads as reads
-use Rattle.steps.proofs.message_word.Lts as lts
 
--- src/lib.rt:49:16
 add-result : tie.Need-add-result
 add-result c = search needs
 
--- src/lib.rt:49:9
 returns : tie.Need-returns
 unfolding messageWord
 returns c = rw (c .if1 .taken)
 
--- src/lib.rt:45:1
 returns-2 : tie.Need-returns-2
 unfolding messageWord
 returns-2 c = rw (c .if1 .left) (omega arith)

@@ -1,31 +1,19 @@
 -- `steps::receive_in` meets its contract: question by question, then the item off its channel, the requests and the record. Assumes
 -- nothing.
-use mathlib.Core.Path.{_≡_, refl, sym, _∙_, subst}
+use mathlib.Core.Path.{_≡_, sym}
 use mathlib.Core.Bool.{true}
 use mathlib.Core.Logic.{_≢_}
 use Prim.Native.Nat.{ℕ, _-_, _<_, _≤_}
 use native.Mathlib.Omega.{arith}
 use Rattle.rules.specs.Questions.{index}
-use Rattle.rules.specs.declared.Local.{Local}
 use Rattle.channel.specs.Channels.{channelsAs, place, lenOf}
 use Rattle.run.specs.Calls.{isPair}
-use Rattle.run.specs.State.{zoneAt, isChannel}
 use Rattle.run.proofs.Facts.{channel-at, place-lt}
 use Rattle.rules.proofs.Tests.{no, yes}
 use Rattle.steps.proofs.Laws.{Pair, pair, ready-high, ready-events, ready-set, ready-room, stays, receive-5, receive-6, receive-9, receive-10, receive-0, some-full, none-full}
 use borrow.Author.Needs.{needs}
 use Rattle.steps.proofs.receive_in.Statement.{statement}
 use Rattle.steps.proofs.receive_in.Tie as tie
-use Rattle.steps.proofs.receive_in.Reads as reads
-use Rattle.steps.proofs.receive_in.Lts as lts
-use Rattle.channel.proofs.first_full.Reads as first-full-reads
-use Rattle.channel.proofs.place.Reads as place-reads
-use Rattle.channel.proofs.pop.Reads as pop-reads
-use Rattle.channel.proofs.request_all.Reads as request-all-reads
-use Rattle.steps.proofs.is_pair.Reads as is-pair-reads
-use Rattle.steps.proofs.record_word.Reads as record-word-reads
-use Rattle.steps.proofs.refused.Reads as refused-reads
-use Rattle.steps.proofs.take.Reads as take-reads
 
 pos : (n : ℕ) → n ≢ 0 → 0 < n
 pos n h = omega arith
@@ -40,78 +28,61 @@ named c = pair _ _ _ (pairs c)
 high : (c : tie.Else1) → c .before .before .args .count ≤ 8
 high c = ready-high _ _ _ _ _ (c .before .before .pre)
 
--- src/lib.rt:151:9
 is-pair-requires : tie.Need-is-pair-requires
 is-pair-requires c κs = search needs
 
--- src/lib.rt:152:9
 refused-requires : tie.Need-refused-requires
 refused-requires c κs = search needs
 
--- src/lib.rt:152:9
 returns : tie.Need-returns
 returns c = λ zones opening e s.
     stays _ _ _ zones opening _ _ _ _ _ 5 _ (c .refused .ensures) e (receive-5 _ _ _ _ e s (no (c .before .before .is-pair .ensures) (c .before .if1 .taken)))
 
--- src/lib.rt:155:9
 refused-requires-2 : tie.Need-refused-requires-2
 refused-requires-2 c κs = search needs
 
--- src/lib.rt:155:9
 returns-2 : tie.Need-returns-2
 returns-2 c = λ zones opening e s.
     stays _ _ _ zones opening _ _ _ _ _ 6 _ (c .refused2 .ensures) e (receive-6 _ _ _ _ e s (pairs (c .before .before)) (c .before .if2 .taken))
 
--- src/lib.rt:157:13
 sub-a : tie.Need-sub-a
 sub-a c = named (c .before) .from-low
 
--- src/lib.rt:158:13
 sub-b : tie.Need-sub-b
 sub-b c = named (c .before) .to-low
 
--- src/lib.rt:159:19
 cast-place : tie.Need-cast-place
 cast-place c = search needs
 
--- src/lib.rt:159:31
 cast-place-2 : tie.Need-cast-place-2
 cast-place-2 c = search needs
 
--- src/lib.rt:159:9
 place-requires : tie.Need-place-requires
 place-requires c κs =
     let p = named (c .before) in
     let h = high (c .before) in
     (omega arith, omega arith)
 
--- src/lib.rt:160:8
 element-copy-out-if3 : tie.Need-element-copy-out-if3
 element-copy-out-if3 c = search needs
 
--- src/lib.rt:161:9
 refused-requires-3 : tie.Need-refused-requires-3
 refused-requires-3 c κs = search needs
 
--- src/lib.rt:161:9
 returns-3 : tie.Need-returns-3
 returns-3 c = λ zones opening e s.
     stays _ _ _ zones opening _ _ _ _ _ 9 _ (c .refused3 .ensures) e
     (receive-9 _ _ _ _ e s (pairs (c .before .before .before .before .before)) (c .before .before .before .before .if2 .left) (rw (sym (c .before .before .before .place .ensures .0)) (c .before .if3 .taken)))
 
--- src/lib.rt:163:22
 mul-word : tie.Need-mul-word
 mul-word c = search needs
 
--- src/lib.rt:163:16
 mul-word-2 : tie.Need-mul-word-2
 mul-word-2 c = search needs
 
--- src/lib.rt:163:16
 element-copy-out-word : tie.Need-element-copy-out-word
 element-copy-out-word c = search needs
 
--- src/lib.rt:164:9
 take-requires : tie.Need-take-requires
 take-requires c κs =
     let p = named (c .before .before .before .before .before) in
@@ -130,22 +101,18 @@ take-requires c κs =
       ready-set _ _ _ _ _ (c .before .before .before .before .before .before .before .pre) _ (p .receiver) k e n,
     )
 
--- src/lib.rt:165:33
 cast-first-full : tie.Need-cast-first-full
 cast-first-full c = search needs
 
--- src/lib.rt:165:9
 first-full-requires : tie.Need-first-full-requires
 first-full-requires c κs =
     let p = named (c .before .before .before .before .before .before .before) in
     let h = high (c .before .before .before .before .before .before .before) in
     omega arith
 
--- src/lib.rt:167:9
 refused-requires-4 : tie.Need-refused-requires-4
 refused-requires-4 c κs = search needs
 
--- src/lib.rt:167:9
 returns-4 : tie.Need-returns-4
 returns-4 c = λ zones opening e s.
     stays _ _ _ zones opening _ _ _ _ _ 10 _ (c .refused4 .ensures) e
@@ -153,41 +120,33 @@ returns-4 c = λ zones opening e s.
     (rw (sym (c .before .before .before .before .before .before .before .before .place .ensures .0)) (c .before .before .before .before .take .ensures))
     (some-full _ _ _ _ (c .before .before .first-full .ensures _) (c .before .if4 .taken)))
 
--- src/lib.rt:169:5
 pop-requires : tie.Need-pop-requires
 pop-requires c κs = search needs
 
--- src/lib.rt:170:30
 cast-request-all : tie.Need-cast-request-all
 cast-request-all c = search needs
 
--- src/lib.rt:170:5
 request-all-requires : tie.Need-request-all-requires
 request-all-requires c κs =
     let p = named (c .before .before .before .before .before .before .before .before .before .before .before .before .before .before) in
     let h = high (c .before .before .before .before .before .before .before .before .before .before .before .before .before .before) in
     omega arith
 
--- src/lib.rt:172:18
 record-word-requires : tie.Need-record-word-requires
 record-word-requires c κs =
     let p = named (c .before .before .before .before .before .before .before .before .before .before .before .before .before .before .before) in
     let h = high (c .before .before .before .before .before .before .before .before .before .before .before .before .before .before .before) in
     (omega arith, omega arith, omega arith)
 
--- src/lib.rt:172:5
 mul-journal : tie.Need-mul-journal
 mul-journal c = search needs
 
--- src/lib.rt:172:5
 element-write-journal : tie.Need-element-write-journal
 element-write-journal c = search needs
 
--- src/lib.rt:176:18
 add-t26 : tie.Need-add-t26
 add-t26 c = search needs
 
--- src/lib.rt:133:1
 returns-5 : tie.Need-returns-5
 returns-5 c = λ zones opening e s.
     rw (c .before .record-word .ensures, c .before .before .request-all .ensures, c .before .before .before .before .before .pop .ensures .1, c .before .before .before .before .before .before .before .before .before .before .before .before .before .before .before .place .ensures .0)

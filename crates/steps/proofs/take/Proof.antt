@@ -1,22 +1,16 @@
 -- `steps::take` meets its contract: a message or a request, by the word. Assumes nothing.
-use mathlib.Core.Path.{_≡_, refl, sym, _∙_}
-use Prim.Native.Nat.{_-_, _%_, _<_, _≤_}
+use mathlib.Core.Path.{_≡_}
+use Prim.Native.Nat.{_-_, _%_, _<_}
 use native.Mathlib.Omega.{arith}
 use borrow.Author.Tests.{lt-ltb, le-ltb}
 use Rattle.channel.specs.Words.{itemOf}
 use borrow.Author.Needs.{needs}
 use Rattle.steps.proofs.take.Statement.{statement}
 use Rattle.steps.proofs.take.Tie as tie
-use Rattle.steps.proofs.take.Reads as reads
-use Rattle.steps.proofs.take.Lts as lts
-use Rattle.local.proofs.receive.Reads as receive-reads
-use Rattle.local.proofs.request.Reads as request-reads
 
--- src/lib.rt:120:15
 cast-low : tie.Need-cast-low
 cast-low c = search needs
 
--- src/lib.rt:122:13
 receive-requires : tie.Need-receive-requires
 unfolding itemOf
 receive-requires c κs =
@@ -24,16 +18,13 @@ receive-requires c κs =
     let r = rw (lt-ltb _ _ (c .if1 .taken)) at (p .3) in
     (p .0, r, p .2)
 
--- src/lib.rt:123:9
 returns : tie.Need-returns
 unfolding itemOf
 returns c = rw (lt-ltb _ _ (c .before .if1 .taken), c .receive .ensures)
 
--- src/lib.rt:129:5
 request-requires : tie.Need-request-requires
 request-requires c κs = search needs
 
--- src/lib.rt:114:1
 returns-2 : tie.Need-returns-2
 unfolding itemOf
 returns-2 c =

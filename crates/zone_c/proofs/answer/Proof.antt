@@ -1,33 +1,23 @@
 -- `zone_c::answer` meets its contract. Assumes nothing.
-use borrow.Author.Tests.{eq-eqb, ne-eqb, lt-ltb, le-ltb}
+use borrow.Author.Tests.{eq-eqb, ne-eqb}
 use Rattle.zone_c.specs.Plain.{answerPlain}
 use borrow.Author.Needs.{needs}
 use Rattle.zone_c.proofs.answer.Statement.{statement}
 use Rattle.zone_c.proofs.answer.Tie as tie
-use Rattle.zone_c.proofs.answer.Reads as reads
-use Rattle.zone_c.proofs.answer.Lts as lts
-use Rattle.zone_c.proofs.flag_of.Reads as flag-of-reads
-use Rattle.zone_c.proofs.plain_of.Reads as plain-of-reads
-use Rattle.zone_c.proofs.refused.Reads as refused-reads
 
--- src/lib.rt:168:9
 refused-requires : tie.Need-refused-requires
 refused-requires c κs = search needs
 
--- src/lib.rt:168:9
 returns : tie.Need-returns
 unfolding answerPlain
 returns c = rw (ne-eqb _ _ (c .before .if1 .taken), c .refused .ensures)
 
--- src/lib.rt:171:9
 plain-of-requires : tie.Need-plain-of-requires
 plain-of-requires c κs = search needs
 
--- src/lib.rt:172:9
 flag-of-requires : tie.Need-flag-of-requires
 flag-of-requires c κs = search needs
 
--- src/lib.rt:164:1
 returns-2 : tie.Need-returns-2
 unfolding answerPlain
 returns-2 c = rw (eq-eqb _ _ (c .before .before .before .if1 .left), c .flag-of .ensures, c .before .plain-of .ensures)

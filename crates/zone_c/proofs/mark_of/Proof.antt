@@ -1,22 +1,17 @@
 -- `zone_c::mark_of` meets its contract. Assumes nothing.
-use borrow.Author.Tests.{eq-eqb, ne-eqb, lt-ltb, le-ltb}
+use borrow.Author.Tests.{eq-eqb, ne-eqb}
 use Rattle.zone_c.specs.Plain.{markOf}
 use Rattle.zone_c.proofs.mark_of.Statement.{statement}
 use Rattle.zone_c.proofs.mark_of.Tie as tie
-use Rattle.zone_c.proofs.mark_of.Reads as reads
-use Rattle.zone_c.proofs.mark_of.Lts as lts
 
--- src/lib.rt:67:9
 returns : tie.Need-returns
 unfolding markOf
 returns c = rw (eq-eqb _ _ (c .if1 .taken))
 
--- src/lib.rt:70:9
 returns-2 : tie.Need-returns-2
 unfolding markOf
 returns-2 c = rw (ne-eqb _ _ (c .before .if1 .left), eq-eqb _ _ (c .if2 .taken))
 
--- src/lib.rt:63:1
 returns-3 : tie.Need-returns-3
 unfolding markOf
 returns-3 c = rw (ne-eqb _ _ (c .before .if1 .left), ne-eqb _ _ (c .if2 .left))

@@ -2,15 +2,10 @@
 use borrow.Author.Needs.{needs}
 use Rattle.zone_c.proofs.zone_of.Statement.{statement}
 use Rattle.zone_c.proofs.zone_of.Tie as tie
-use Rattle.zone_c.proofs.zone_of.Reads as reads
-use Rattle.zone_c.proofs.zone_of.Lts as lts
-use Rattle.zone_c.proofs.mark_of.Reads as mark-of-reads
 
--- src/lib.rt:85:9
 mark-of-requires : tie.Need-mark-of-requires
 mark-of-requires c κs = search needs
 
--- src/lib.rt:81:1
 returns : tie.Need-returns
 returns c = rw (c .mark-of .ensures)
 

@@ -2,20 +2,13 @@
 use borrow.Author.Needs.{needs}
 use Rattle.zone_c.proofs.zone_open.Statement.{statement}
 use Rattle.zone_c.proofs.zone_open.Tie as tie
-use Rattle.zone_c.proofs.zone_open.Reads as reads
-use Rattle.zone_c.proofs.zone_open.Lts as lts
-use Rattle.zone.proofs.Zone.open.Reads as open-reads
-use Rattle.zone_c.proofs.plain_of.Reads as plain-of-reads
 
--- src/lib.rt:187:9
 open-requires : tie.Need-open-requires
 open-requires c κs = search needs
 
--- src/lib.rt:189:9
 plain-of-requires : tie.Need-plain-of-requires
 plain-of-requires c κs = search needs
 
--- src/lib.rt:183:1
 returns : tie.Need-returns
 returns c = rw (c .plain-of .ensures, c .before .before .«open» .ensures)
 

@@ -1,38 +1,26 @@
 -- `zone_c::zone_request` meets its contract. Assumes nothing.
-use borrow.Author.Tests.{eq-eqb, ne-eqb, lt-ltb, le-ltb}
+use borrow.Author.Tests.{lt-ltb, le-ltb}
 use Rattle.zone_c.specs.Plain.{requestPlain}
 use borrow.Author.Needs.{needs}
 use Rattle.zone_c.proofs.zone_request.Statement.{statement}
 use Rattle.zone_c.proofs.zone_request.Tie as tie
-use Rattle.zone_c.proofs.zone_request.Reads as reads
-use Rattle.zone_c.proofs.zone_request.Lts as lts
-use Rattle.zone.proofs.Zone.request.Reads as request-reads
-use Rattle.zone_c.proofs.answer.Reads as answer-reads
-use Rattle.zone_c.proofs.refused.Reads as refused-reads
-use Rattle.zone_c.proofs.zone_of.Reads as zone-of-reads
 
--- src/lib.rt:224:9
 refused-requires : tie.Need-refused-requires
 refused-requires c κs = search needs
 
--- src/lib.rt:224:9
 returns : tie.Need-returns
 unfolding requestPlain
 returns c = rw (lt-ltb _ _ (c .before .if1 .taken), c .refused .ensures)
 
--- src/lib.rt:226:15
 zone-of-requires : tie.Need-zone-of-requires
 zone-of-requires c κs = search needs
 
--- src/lib.rt:226:15
 request-requires : tie.Need-request-requires
 request-requires c κs = search needs
 
--- src/lib.rt:226:5
 answer-requires : tie.Need-answer-requires
 answer-requires c κs = search needs
 
--- src/lib.rt:219:1
 returns-2 : tie.Need-returns-2
 unfolding requestPlain
 returns-2 c = rw (le-ltb _ _ (c .before .before .before .if1 .left), c .answer .ensures, c .before .request .ensures, c .before .before .zone-of .ensures)

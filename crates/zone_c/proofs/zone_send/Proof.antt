@@ -1,38 +1,26 @@
 -- `zone_c::zone_send` meets its contract. Assumes nothing.
-use borrow.Author.Tests.{eq-eqb, ne-eqb, lt-ltb, le-ltb}
+use borrow.Author.Tests.{lt-ltb, le-ltb}
 use Rattle.zone_c.specs.Plain.{sendPlain}
 use borrow.Author.Needs.{needs}
 use Rattle.zone_c.proofs.zone_send.Statement.{statement}
 use Rattle.zone_c.proofs.zone_send.Tie as tie
-use Rattle.zone_c.proofs.zone_send.Reads as reads
-use Rattle.zone_c.proofs.zone_send.Lts as lts
-use Rattle.zone.proofs.Zone.send.Reads as send-reads
-use Rattle.zone_c.proofs.answer.Reads as answer-reads
-use Rattle.zone_c.proofs.refused.Reads as refused-reads
-use Rattle.zone_c.proofs.zone_of.Reads as zone-of-reads
 
--- src/lib.rt:202:9
 refused-requires : tie.Need-refused-requires
 refused-requires c κs = search needs
 
--- src/lib.rt:202:9
 returns : tie.Need-returns
 unfolding sendPlain
 returns c = rw (lt-ltb _ _ (c .before .if1 .taken), c .refused .ensures)
 
--- src/lib.rt:204:15
 zone-of-requires : tie.Need-zone-of-requires
 zone-of-requires c κs = search needs
 
--- src/lib.rt:204:15
 send-requires : tie.Need-send-requires
 send-requires c κs = search needs
 
--- src/lib.rt:204:5
 answer-requires : tie.Need-answer-requires
 answer-requires c κs = search needs
 
--- src/lib.rt:197:1
 returns-2 : tie.Need-returns-2
 unfolding sendPlain
 returns-2 c = rw (le-ltb _ _ (c .before .before .before .if1 .left), c .answer .ensures, c .before .send .ensures, c .before .before .zone-of .ensures)
