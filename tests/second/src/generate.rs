@@ -232,10 +232,10 @@ fn appended(random: &mut Random, run: &Run, word: u16) -> Vec<u8> {
 }
 
 /// How many kinds of damage there are.
-const DAMAGES: usize = 36;
+pub const DAMAGES: usize = 36;
 
 /// A damaged journal of one kind.
-fn damaged(random: &mut Random, kind: usize) -> Vec<u8> {
+pub fn damaged(random: &mut Random, kind: usize) -> Vec<u8> {
     let mut bytes = base(random);
     let zones = zones_of(&bytes);
     let records = records_of(&bytes);
@@ -423,10 +423,10 @@ fn damaged(random: &mut Random, kind: usize) -> Vec<u8> {
 }
 
 /// How many kinds of true runs there are.
-const SHAPES: usize = 44;
+pub const SHAPES: usize = 44;
 
 /// A journal that is accepted, of one kind.
-fn accepted(random: &mut Random, kind: usize) -> Vec<u8> {
+pub fn accepted(random: &mut Random, kind: usize) -> Vec<u8> {
     let zones = random.within(2, 8);
     let run = match kind {
         // Unstarted ones, also without any record.

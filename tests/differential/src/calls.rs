@@ -1,0 +1,394 @@
+//! Random lists of calls from random openings, in several shapes of traffic.
+
+use crate::count::{Counts, Failure};
+use crate::pair::{self, Pair};
+use second::generate;
+use second::journal::{self, decode};
+use second::random::{cars, drive, stocks, Habits, Random};
+use second::site::{Call, MOST_RECORDS, PLACES};
+
+type Shape = fn(&mut Counts, &mut Random) -> Result<(), Failure>;
+
+/// The shapes take turns; one that stands here twice comes twice as often.
+const SHAPES: [Shape; 16] = [
+    drawn,
+    drawn,
+    replayed,
+    replayed,
+    replayed,
+    turned,
+    turned,
+    ring,
+    crowded,
+    wide,
+    blocked_start,
+    blocked_receipt,
+    poor,
+    restarted,
+    strayed,
+    full,
+];
+
+pub fn trial(counts: &mut Counts, random: &mut Random, index: usize) -> Result<(), Failure> {
+    openings(counts, random)?;
+    SHAPES[index % SHAPES.len()](counts, random)
+}
+
+/// An opening with any arguments, most of them near what is refused.
+fn openings(counts: &mut Counts, random: &mut Random) -> Result<(), Failure> {
+    let count = match random.below(4) {
+        0 => random.within(0, 255),
+        _ => random.within(0, 10),
+    };
+    let length = match random.below(4) {
+        0 => random.within(0, 12),
+        _ => count.min(40),
+    };
+    let mut stocks: Vec<u16> = (0..length)
+        .map(|_| random.within(0, 65_535 / length.max(1)) as u16)
+        .collect();
+    if length > 0 && random.chance(50) {
+        // The sum is brought to the largest that is accepted, or one above.
+        let rest: u32 = stocks[1..].iter().map(|&stock| u32::from(stock)).sum();
+        stocks[0] = (65_535 - rest) as u16;
+        let last = stocks.len() - 1;
+        stocks[last] = stocks[last].saturating_add(random.below(2) as u16);
+    }
+    pair::open(counts, count as u8, &stocks)?;
+    Ok(())
+}
+
+fn opened<'a>(
+    counts: &'a mut Counts,
+    random: &mut Random,
+    zones: u32,
+) -> Result<Pair<'a>, Failure> {
+    let stocks = stocks(random, zones);
+    Pair::open(counts, random, &stocks)
+}
+
+/// Two different zones of a site.
+fn two(random: &mut Random, zones: u32) -> (u32, u32) {
+    let from = random.within(1, zones);
+    let to = (from - 1 + random.within(1, zones - 1)) % zones + 1;
+    (from, to)
+}
+
+/// The call with its zones cut to one byte, so that both implementations can take it.
+fn narrow(call: Call) -> Call {
+    match call {
+        Call::HandOver { from, to, cars } => Call::HandOver {
+            from: from % 256,
+            to: to % 256,
+            cars,
+        },
+        Call::Receipt { from, to } => Call::Receipt {
+            from: from % 256,
+            to: to % 256,
+        },
+        Call::Start { zone } => Call::Start { zone: zone % 256 },
+    }
+}
+
+/// A call with any zones: 0, those just off the site, any byte, or two that are equal.
+pub fn stray(random: &mut Random, zones: u32) -> Call {
+    let mut zone = || match random.below(6) {
+        0 => 0,
+        1 => zones + 1,
+        2 => random.within(9, 255),
+        _ => random.within(1, zones.max(1)),
+    };
+    let (from, to) = (zone(), zone());
+    match random.below(3) {
+        0 => Call::HandOver {
+            from,
+            to,
+            cars: cars(random),
+        },
+        1 => Call::Receipt { from, to },
+        _ => Call::Start { zone: from },
+    }
+}
+
+/// Calls drawn as the second implementation's own tests draw them.
+fn drawn(counts: &mut Counts, random: &mut Random) -> Result<(), Failure> {
+    let zones = random.within(2, 8);
+    let length = [20, 60, 120, 400][random.below(4)];
+    let mut pair = opened(counts, random, zones)?;
+    let mut failure = None;
+    drive(random, zones, length, &mut |call| {
+        if failure.is_some() {
+            return 0;
+        }
+        let answer = pair.call(narrow(call));
+        answer.unwrap_or_else(|found| {
+            failure = Some(found);
+            0
+        })
+    });
+    match failure {
+        Some(failure) => Err(failure),
+        None => pair.end(),
+    }
+}
+
+/// The calls of a generated journal; in some lists stray calls stand between them.
+fn replay(counts: &mut Counts, random: &mut Random, kind: usize) -> Result<(), Failure> {
+    let run = journal::read(&generate::accepted(random, kind)).run;
+    let strays = if random.chance(40) {
+        random.within(1, 8)
+    } else {
+        0
+    };
+    let mut pair = Pair::open(counts, random, &run.opening[..run.size()])?;
+    for &word in &run.records {
+        if random.chance(strays) {
+            pair.call(stray(random, run.count))?;
+        }
+        pair.call(decode(word).expect("a record of a run is well formed"))?;
+    }
+    pair.end()
+}
+
+/// A generated journal of any kind, except those with 1,000 records, which take long.
+fn replayed(counts: &mut Counts, random: &mut Random) -> Result<(), Failure> {
+    let kind = match random.below(generate::SHAPES) {
+        12..=14 => 16,
+        kind => kind,
+    };
+    replay(counts, random, kind)
+}
+
+/// A generated journal of the kind in which a provisional mark turns firm.
+fn turned(counts: &mut Counts, random: &mut Random) -> Result<(), Failure> {
+    replay(counts, random, 26)
+}
+
+/// A hot ring: each zone sends to the next, and the lines are received nearly as fast.
+fn ring(counts: &mut Counts, random: &mut Random) -> Result<(), Failure> {
+    let zones = random.within(2, 8);
+    let mut pair = opened(counts, random, zones)?;
+    let steps = random.within(20, 200);
+    let start = random.within(0, steps);
+    for step in 0..steps {
+        let from = step % zones + 1;
+        let to = from % zones + 1;
+        if random.chance(90) {
+            pair.send(from, to, cars(random))?;
+        }
+        if random.chance(85) {
+            pair.receive(from, to)?;
+        }
+        if random.chance(10) {
+            pair.send(to, from, 0)?;
+            pair.receive(to, from)?;
+        }
+        if step == start {
+            pair.start(random.within(1, zones))?;
+        }
+    }
+    pair.finish(random)?;
+    pair.end()
+}
+
+/// One line is driven to 16 items and further, a request among or behind its hand-overs.
+fn crowded(counts: &mut Counts, random: &mut Random) -> Result<(), Failure> {
+    let zones = random.within(2, 8);
+    let (from, to) = two(random, zones);
+    let mut pair = opened(counts, random, zones)?;
+    if random.chance(70) {
+        // The sender hears the receiver, so that its request goes over the crowded line.
+        pair.send(to, from, cars(random))?;
+        pair.receive(to, from)?;
+    }
+    for _ in 0..random.within(8, 19) {
+        pair.send(from, to, cars(random))?;
+    }
+    pair.start(from)?;
+    for _ in 0..random.within(1, 9) {
+        pair.send(from, to, 0)?;
+    }
+    for _ in 0..random.within(0, 18) {
+        pair.receive(from, to)?;
+    }
+    for _ in 0..random.within(1, 19) {
+        pair.send(from, to, cars(random))?;
+    }
+    pair.finish(random)?;
+    pair.end()
+}
+
+/// Every line at once: after a start all zones fill their lines before a request is received, so
+/// that the recording has up to hundreds of items. Each zone has heard the next.
+fn wide(counts: &mut Counts, random: &mut Random) -> Result<(), Failure> {
+    let zones = random.within(2, 8);
+    let mut pair = opened(counts, random, zones)?;
+    for zone in 1..=zones {
+        let next = zone % zones + 1;
+        pair.send(next, zone, 0)?;
+        pair.receive(next, zone)?;
+    }
+    pair.start(random.within(1, zones))?;
+    for _ in 0..random.within(1, 14) {
+        for from in 1..=zones {
+            for to in (1..=zones).filter(|&to| to != from) {
+                let few = if random.chance(30) { 0 } else { cars(random) };
+                pair.send(from, to, few)?;
+            }
+        }
+    }
+    pair.finish(random)?;
+    pair.end()
+}
+
+/// A start that must send over a full line, refused with 10 until a place is free.
+fn blocked_start(counts: &mut Counts, random: &mut Random) -> Result<(), Failure> {
+    let zones = random.within(2, 8);
+    let mut pair = opened(counts, random, zones)?;
+    let starter = random.within(1, zones);
+    for _ in 0..random.within(1, 3) {
+        let other = (starter - 1 + random.within(1, zones - 1)) % zones + 1;
+        pair.send(other, starter, cars(random))?;
+        pair.send(other, starter, 0)?;
+        pair.receive(other, starter)?;
+        for _ in 0..PLACES {
+            pair.send(starter, other, random.below(2) as u8)?;
+            pair.send(starter, other, 0)?;
+        }
+    }
+    pair.start(starter)?;
+    for other in (1..=zones).filter(|&other| other != starter) {
+        pair.receive(starter, other)?;
+        pair.start(starter)?;
+    }
+    pair.finish(random)?;
+    pair.end()
+}
+
+/// A receipt of a request that must be passed on over a full line, refused with 10 until a place
+/// is free.
+fn blocked_receipt(counts: &mut Counts, random: &mut Random) -> Result<(), Failure> {
+    let zones = random.within(3, 8);
+    let mut pair = opened(counts, random, zones)?;
+    let (first, second) = two(random, zones);
+    let others: Vec<u32> = (1..=zones)
+        .filter(|&zone| zone != first && zone != second)
+        .collect();
+    let third = others[random.below(others.len())];
+    pair.send(third, second, 0)?;
+    pair.receive(third, second)?;
+    pair.send(second, first, 0)?;
+    pair.receive(second, first)?;
+    for _ in 0..PLACES {
+        pair.send(second, third, random.below(2) as u8)?;
+        pair.send(second, third, 0)?;
+    }
+    pair.start(first)?;
+    if random.chance(50) {
+        // A marked hand-over gives the second zone a provisional mark before its request.
+        pair.send(first, third, 0)?;
+        pair.receive(first, third)?;
+        pair.send(third, second, 0)?;
+        pair.receive(third, second)?;
+    }
+    pair.receive(first, second)?;
+    pair.receive(second, third)?;
+    pair.receive(first, second)?;
+    pair.finish(random)?;
+    pair.end()
+}
+
+/// Stocks that run down, with numbers of cars just covered, just not covered, 0 and 255.
+fn poor(counts: &mut Counts, random: &mut Random) -> Result<(), Failure> {
+    let zones = random.within(2, 8);
+    let most = [3, 40, 300][random.below(3)];
+    let stocks: Vec<u16> = (0..zones).map(|_| random.within(0, most) as u16).collect();
+    let mut pair = Pair::open(counts, random, &stocks)?;
+    for _ in 0..random.within(10, 120) {
+        let (from, to) = two(random, zones);
+        let stock = pair.run.zones[from as usize - 1].stock;
+        let cars = match random.below(4) {
+            0 => 255,
+            1 => (stock + 1).min(255),
+            2 => stock.min(255),
+            _ => 0,
+        };
+        pair.send(from, to, cars as u8)?;
+        if random.chance(60) {
+            let (from, to) = two(random, zones);
+            pair.receive(from, to)?;
+        }
+        if random.chance(2) {
+            pair.start(from)?;
+        }
+    }
+    pair.finish(random)?;
+    pair.end()
+}
+
+/// Starts before all traffic, in its midst, after it, and each time again.
+fn restarted(counts: &mut Counts, random: &mut Random) -> Result<(), Failure> {
+    let zones = random.within(2, 8);
+    let habits = Habits::draw(random, zones).tame().starting(100);
+    let mut pair = opened(counts, random, zones)?;
+    let early = random.chance(30);
+    for step in 0..random.within(1, 80) {
+        if step == 0 && early {
+            pair.start(random.within(1, zones))?;
+        }
+        pair.call(habits.call(random))?;
+    }
+    pair.start(random.within(1, zones))?;
+    pair.finish(random)?;
+    pair.start(random.within(1, zones))?;
+    pair.end()
+}
+
+/// Half of the calls name wrong zones.
+fn strayed(counts: &mut Counts, random: &mut Random) -> Result<(), Failure> {
+    let zones = random.within(2, 8);
+    let habits = Habits::draw(random, zones).tame();
+    let mut pair = opened(counts, random, zones)?;
+    for _ in 0..random.within(1, 80) {
+        let call = if random.chance(50) {
+            stray(random, zones)
+        } else {
+            habits.call(random)
+        };
+        pair.call(call)?;
+    }
+    pair.finish(random)?;
+    pair.end()
+}
+
+/// A run driven to 1,000 records, and then every kind of call: all of them meet 6, or 5 before.
+fn full(counts: &mut Counts, random: &mut Random) -> Result<(), Failure> {
+    let zones = random.within(2, 8);
+    let habits = Habits::draw(random, zones).tame().starting(3);
+    let mut pair = opened(counts, random, zones)?;
+    for _ in 0..random.within(200, 2_000) {
+        pair.call(habits.call(random))?;
+    }
+    if random.chance(80) {
+        pair.finish(random)?;
+    }
+    let (from, to) = two(random, zones);
+    while pair.run.records.len() < MOST_RECORDS {
+        let records = pair.run.records.len();
+        pair.send(from, to, 0)?;
+        pair.receive(from, to)?;
+        if records == pair.run.records.len() {
+            // A request that cannot be passed on holds up the line, so another zone drains.
+            let (from, to) = two(random, zones);
+            pair.receive(from, to)?;
+        }
+    }
+    for _ in 0..4 {
+        let (from, to) = two(random, zones);
+        pair.send(from, to, cars(random))?;
+        pair.receive(from, to)?;
+        pair.start(from)?;
+        pair.call(stray(random, zones))?;
+    }
+    pair.end()
+}

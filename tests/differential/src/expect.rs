@@ -1,0 +1,147 @@
+//! What each call must answer: the second implementation's answer in the form of the plain structs.
+
+use crate::compare::Output;
+use crate::ffi::{self, PlainAnswer, PlainReading, PlainRun, PlainWritten};
+use crate::plain;
+use second::print::MOST_BYTES;
+use second::random::Random;
+use second::site::{Call, Run};
+use second::{journal, recording};
+
+/// Narrows a refusal number.
+pub fn number(refusal: u32) -> u8 {
+    u8::try_from(refusal).expect("a refusal number fits 8 bits")
+}
+
+fn zone(zone: u32) -> u8 {
+    u8::try_from(zone).expect("calls are drawn with zones of one byte")
+}
+
+/// Makes a call on the proved code.
+pub fn proved(p: &PlainRun, call: Call) -> PlainAnswer {
+    match call {
+        Call::HandOver { from, to, cars } => ffi::site_send(p, zone(from), zone(to), cars),
+        Call::Receipt { from, to } => ffi::site_receive(p, zone(from), zone(to)),
+        Call::Start { zone: starter } => ffi::site_start(p, zone(starter)),
+    }
+}
+
+/// The line that loses an item when a call is accepted.
+fn popped(call: Call) -> Option<(usize, usize)> {
+    match call {
+        Call::Receipt { from, to } => Some((from as usize - 1, to as usize - 1)),
+        _ => None,
+    }
+}
+
+/// The answer to a call on a struct with any bytes; refused, the struct comes back as it came.
+pub fn answer(p: &PlainRun, call: Call) -> PlainAnswer {
+    let refused = |refusal: u32| PlainAnswer {
+        refusal: number(refusal),
+        run: *p,
+    };
+    let Some(mut run) = plain::run_of(p) else {
+        return refused(1);
+    };
+    match run.call(call) {
+        0 => PlainAnswer {
+            refusal: 0,
+            run: plain::after(p, &run, popped(call)),
+        },
+        refusal => refused(refusal),
+    }
+}
+
+/// What a writer makes of a run when it is lent enough bytes.
+#[derive(Clone, Debug)]
+pub struct Made {
+    pub refusal: u32,
+    pub position: usize,
+    pub bytes: Vec<u8>,
+}
+
+type Writer = fn(&Run, &mut [u8]) -> (u32, usize);
+
+fn made(run: Option<&Run>, write: Writer) -> Made {
+    let mut lent = [0; MOST_BYTES];
+    let (refusal, written) = run.map_or((1, 0), |run| write(run, &mut lent));
+    Made {
+        refusal,
+        position: 0,
+        bytes: lent[..written].to_vec(),
+    }
+}
+
+pub fn recording(run: Option<&Run>) -> Made {
+    made(run, recording::write)
+}
+
+pub fn journal(run: Option<&Run>) -> Made {
+    made(run, journal::write)
+}
+
+/// What journal_record makes of a reading.
+pub fn recorded(reading: &journal::Reading) -> Made {
+    match reading.refusal {
+        0 => recording(Some(&reading.run)),
+        refusal => Made {
+            refusal,
+            position: reading.position,
+            bytes: Vec::new(),
+        },
+    }
+}
+
+pub fn reading(reading: &journal::Reading) -> PlainReading {
+    PlainReading {
+        refusal: number(reading.refusal),
+        position: reading.position,
+        run: plain::plain_run(&reading.run),
+    }
+}
+
+impl Made {
+    /// The answer and the lent bytes after a call that was lent these ones.
+    pub fn output(&self, lent: &[u8]) -> Output {
+        let mut bytes = lent.to_vec();
+        let (refusal, written) = match self.refusal {
+            0 => journal::lend(&self.bytes, &mut bytes),
+            refusal => (refusal, 0),
+        };
+        let answer = PlainWritten {
+            refusal: number(refusal),
+            position: self.position,
+            written,
+        };
+        bytes.extend(GUARD);
+        Output { answer, bytes }
+    }
+
+    /// Bytes to be lent, filled with a pattern: too few by one, just enough, more, and any number
+    /// up to those.
+    pub fn lents(&self, random: &mut Random) -> [Vec<u8>; 4] {
+        let enough = self.bytes.len();
+        let most = if random.chance(10) { 3_000 } else { 60 };
+        let more = enough + random.within(1, most) as usize;
+        let any = random.below(enough + 1);
+        [enough.saturating_sub(1), enough, more, any].map(|length| pattern(random, length))
+    }
+}
+
+/// Bytes without a regular repeat of 0, so that a write of any value is seen.
+fn pattern(random: &mut Random, length: usize) -> Vec<u8> {
+    let (first, step) = (random.within(0, 255), 2 * random.within(0, 127) + 1);
+    (0..length)
+        .map(|index| (first + step * index as u32) as u8)
+        .collect()
+}
+
+/// Bytes behind the lent ones, which no call may touch.
+const GUARD: [u8; 32] = [0xA5; 32];
+
+/// Makes a call that writes on the proved code.
+pub fn written(lent: &[u8], write: impl FnOnce(&mut [u8]) -> PlainWritten) -> Output {
+    let mut bytes = [lent, &GUARD].concat();
+    let answer = write(&mut bytes[..lent.len()]);
+    Output { answer, bytes }
+}

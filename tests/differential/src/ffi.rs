@@ -1,0 +1,186 @@
+//! The calls of the proved code as c/zone.h and c/site.h declare them, and the same made safe.
+
+use std::mem::{offset_of, size_of};
+
+#[repr(C)]
+#[derive(Clone, Copy, Debug, PartialEq, Eq)]
+pub struct PlainSaved {
+    pub stock: u16,
+    pub events: u16,
+}
+
+#[repr(C)]
+#[derive(Clone, Copy, Debug, PartialEq, Eq)]
+pub struct PlainZone {
+    pub number: u8,
+    pub count: u8,
+    pub deps: u8,
+    pub mark: u8,
+    pub stock: u16,
+    pub events: u16,
+    pub saved: PlainSaved,
+}
+
+#[repr(C)]
+#[derive(Clone, Copy, Debug, PartialEq, Eq)]
+pub struct PlainOpening {
+    pub zone: PlainZone,
+    pub refusal: u8,
+}
+
+#[repr(C)]
+#[derive(Clone, Copy, Debug, PartialEq, Eq)]
+pub struct PlainStep {
+    pub zone: PlainZone,
+    pub refusal: u8,
+    pub flag: u8,
+    pub to: u8,
+    pub carried: u8,
+}
+
+#[repr(C)]
+#[derive(Clone, Copy, Debug, PartialEq, Eq)]
+pub struct PlainLocal {
+    pub stock: u16,
+    pub events: u16,
+    pub deps: u8,
+    pub mark: u8,
+    pub saved: PlainSaved,
+}
+
+#[repr(C)]
+#[derive(Clone, Copy, Debug, PartialEq, Eq)]
+pub struct PlainRun {
+    pub count: u8,
+    pub records: u16,
+    pub zones: [PlainLocal; 8],
+    pub opening: [u16; 8],
+    pub items: [u16; 1024],
+    pub lens: [u8; 64],
+    pub journal: [u16; 1000],
+}
+
+#[repr(C)]
+#[derive(Clone, Copy, Debug, PartialEq, Eq)]
+pub struct PlainAnswer {
+    pub refusal: u8,
+    pub run: PlainRun,
+}
+
+#[repr(C)]
+#[derive(Clone, Copy, Debug, PartialEq, Eq)]
+pub struct PlainReading {
+    pub refusal: u8,
+    pub position: usize,
+    pub run: PlainRun,
+}
+
+#[repr(C)]
+#[derive(Clone, Copy, Debug, PartialEq, Eq)]
+pub struct PlainWritten {
+    pub refusal: u8,
+    pub position: usize,
+    pub written: usize,
+}
+
+// The sizes and offsets that a C compiler gives the structs of the headers.
+const _: () = assert!(size_of::<PlainZone>() == 12);
+const _: () = assert!(size_of::<PlainOpening>() == 14);
+const _: () = assert!(size_of::<PlainStep>() == 16);
+const _: () = assert!(size_of::<PlainLocal>() == 10);
+const _: () = assert!(size_of::<PlainRun>() == 4_212);
+const _: () = assert!(size_of::<PlainAnswer>() == 4_214);
+const _: () = assert!(size_of::<PlainReading>() == 4_232);
+const _: () = assert!(size_of::<PlainWritten>() == 24);
+const _: () = assert!(offset_of!(PlainRun, items) == 100);
+const _: () = assert!(offset_of!(PlainRun, journal) == 2_212);
+
+mod raw {
+    use super::*;
+
+    extern "C" {
+        pub fn zone_open(count: u8, number: u8, stock: u16) -> PlainOpening;
+        pub fn zone_send(zone: PlainZone, to: u8, cars: u8) -> PlainStep;
+        pub fn zone_receive(zone: PlainZone, from: u8, cars: u8, flag: u8) -> PlainStep;
+        pub fn zone_request(zone: PlainZone, set: u8) -> PlainStep;
+        pub fn zone_start(zone: PlainZone) -> PlainStep;
+        pub fn zone_requests(to: u8) -> u32;
+        pub fn zone_next(set: u8) -> u8;
+        pub fn site_open(count: u8, stocks: *const u16, n: usize) -> PlainAnswer;
+        pub fn site_send(run: PlainRun, from: u8, to: u8, cars: u8) -> PlainAnswer;
+        pub fn site_receive(run: PlainRun, from: u8, to: u8) -> PlainAnswer;
+        pub fn site_start(run: PlainRun, zone: u8) -> PlainAnswer;
+        pub fn site_record(run: PlainRun, out: *mut u8, size: usize) -> PlainWritten;
+        pub fn journal_write(run: PlainRun, out: *mut u8, size: usize) -> PlainWritten;
+        pub fn journal_read(bytes: *const u8, size: usize) -> PlainReading;
+        pub fn journal_record(
+            bytes: *const u8,
+            size: usize,
+            out: *mut u8,
+            room: usize,
+        ) -> PlainWritten;
+    }
+}
+
+// Every value of every field may be passed, so the calls with values alone are safe. The others
+// get a pointer and a length of one slice, and Rust keeps a mutable one apart from all else.
+
+pub fn zone_open(count: u8, number: u8, stock: u16) -> PlainOpening {
+    unsafe { raw::zone_open(count, number, stock) }
+}
+
+pub fn zone_send(zone: PlainZone, to: u8, cars: u8) -> PlainStep {
+    unsafe { raw::zone_send(zone, to, cars) }
+}
+
+pub fn zone_receive(zone: PlainZone, from: u8, cars: u8, flag: u8) -> PlainStep {
+    unsafe { raw::zone_receive(zone, from, cars, flag) }
+}
+
+pub fn zone_request(zone: PlainZone, set: u8) -> PlainStep {
+    unsafe { raw::zone_request(zone, set) }
+}
+
+pub fn zone_start(zone: PlainZone) -> PlainStep {
+    unsafe { raw::zone_start(zone) }
+}
+
+pub fn zone_requests(to: u8) -> u32 {
+    unsafe { raw::zone_requests(to) }
+}
+
+pub fn zone_next(set: u8) -> u8 {
+    unsafe { raw::zone_next(set) }
+}
+
+pub fn site_open(count: u8, stocks: &[u16]) -> PlainAnswer {
+    unsafe { raw::site_open(count, stocks.as_ptr(), stocks.len()) }
+}
+
+pub fn site_send(run: &PlainRun, from: u8, to: u8, cars: u8) -> PlainAnswer {
+    unsafe { raw::site_send(*run, from, to, cars) }
+}
+
+pub fn site_receive(run: &PlainRun, from: u8, to: u8) -> PlainAnswer {
+    unsafe { raw::site_receive(*run, from, to) }
+}
+
+pub fn site_start(run: &PlainRun, zone: u8) -> PlainAnswer {
+    unsafe { raw::site_start(*run, zone) }
+}
+
+pub fn site_record(run: &PlainRun, out: &mut [u8]) -> PlainWritten {
+    unsafe { raw::site_record(*run, out.as_mut_ptr(), out.len()) }
+}
+
+pub fn journal_write(run: &PlainRun, out: &mut [u8]) -> PlainWritten {
+    unsafe { raw::journal_write(*run, out.as_mut_ptr(), out.len()) }
+}
+
+pub fn journal_read(bytes: &[u8]) -> PlainReading {
+    unsafe { raw::journal_read(bytes.as_ptr(), bytes.len()) }
+}
+
+pub fn journal_record(bytes: &[u8], out: &mut [u8]) -> PlainWritten {
+    unsafe { raw::journal_record(bytes.as_ptr(), bytes.len(), out.as_mut_ptr(), out.len()) }
+}

@@ -1,0 +1,143 @@
+//! Random and damaged journals: reading, and recording what was read.
+
+use crate::count::{Counts, Entry, Failure, Found};
+use crate::expect::{self, Made};
+use crate::ffi;
+use crate::pair;
+use crate::text;
+use second::generate::{accepted, damaged, DAMAGES, SHAPES};
+use second::journal::{self, words_of};
+use second::random::Random;
+
+/// A generated journal, then the same with more and more damage.
+pub fn trial(counts: &mut Counts, random: &mut Random, index: usize) -> Result<(), Failure> {
+    let kind = index % (DAMAGES + SHAPES);
+    let mut bytes = if kind < DAMAGES {
+        damaged(random, kind)
+    } else {
+        accepted(random, kind - DAMAGES)
+    };
+    check(counts, random, &bytes)?;
+    for _ in 0..random.within(1, 4) {
+        spoil(random, &mut bytes);
+        check(counts, random, &bytes)?;
+    }
+    if random.chance(10) {
+        let bytes = noise(random);
+        check(counts, random, &bytes)?;
+    }
+    Ok(())
+}
+
+fn check(counts: &mut Counts, random: &mut Random, bytes: &[u8]) -> Result<(), Failure> {
+    let call = || format!("the reader on the journal {}", text::bytes(bytes));
+    let compared = read(counts, random, bytes);
+    compared.map_err(|found| Failure::new(String::new(), call(), found))
+}
+
+fn read(counts: &mut Counts, random: &mut Random, bytes: &[u8]) -> Result<(), Found> {
+    let reading = journal::read(bytes);
+    let proved = ffi::journal_read(bytes);
+    counts.same(Entry::JournalRead, &expect::reading(&reading), &proved)?;
+    let recording = expect::recorded(&reading);
+    for lent in recording.lents(random) {
+        let expected = recording.output(&lent);
+        let proved = expect::written(&lent, |out| ffi::journal_record(bytes, out));
+        counts.same(Entry::JournalRecord, &expected, &proved)?;
+    }
+    if reading.refusal == 0 {
+        // What is accepted is written back as the same bytes.
+        let journal = Made {
+            refusal: 0,
+            position: 0,
+            bytes: bytes.to_vec(),
+        };
+        pair::writers(counts, random, &proved.run, &recording, &journal)?;
+    }
+    Ok(())
+}
+
+/// Bytes without any order, some behind a header and a length that fit.
+fn noise(random: &mut Random) -> Vec<u8> {
+    let zones = random.within(1, 8);
+    let records = random.within(0, 40);
+    let mut length = 2 + 2 * (zones + records) as usize;
+    if random.chance(30) {
+        length = random.below(2_100);
+    }
+    let mut bytes: Vec<u8> = (0..length).map(|_| random.within(0, 255) as u8).collect();
+    if length >= 2 && random.chance(80) {
+        let header = journal::header(zones, records as usize);
+        bytes[..2].copy_from_slice(&header.to_be_bytes());
+    }
+    for zone in 0..zones as usize {
+        // Stocks below 8,192 keep the sum in its bounds.
+        if random.chance(90) && 2 + 2 * zone < length {
+            bytes[2 + 2 * zone] %= 32;
+        }
+    }
+    bytes
+}
+
+/// Where the records of a journal begin, and their number, where header and length agree.
+fn records(bytes: &[u8]) -> Option<(usize, usize)> {
+    let header = *words_of(bytes.get(..2)?).first()?;
+    let first = 4 + 2 * usize::from(header >> 10 & 7);
+    let number = usize::from(header & 1_023);
+    (number > 0 && bytes.len() == first + 2 * number).then_some((first, number))
+}
+
+/// Damages a journal once: in a single byte, in its length or among its records.
+fn spoil(random: &mut Random, bytes: &mut Vec<u8>) {
+    let kind = random.below(8);
+    if kind < 4 || records(bytes).is_none() {
+        spoil_bytes(random, bytes, kind);
+    } else {
+        spoil_records(random, bytes, kind);
+    }
+}
+
+fn spoil_bytes(random: &mut Random, bytes: &mut Vec<u8>, kind: usize) {
+    if bytes.is_empty() {
+        bytes.push(random.within(0, 255) as u8);
+        return;
+    }
+    let any = random.below(bytes.len());
+    match kind {
+        0 => bytes.truncate(any),
+        1 => bytes.extend((0..random.within(1, 4)).map(|k| k as u8)),
+        2 => bytes[any % 2] = random.within(0, 255) as u8,
+        3 => bytes[any] = random.within(0, 255) as u8,
+        _ => bytes[any] ^= 1 << random.below(8),
+    }
+}
+
+/// Damages the records alone, so that header and length still agree.
+fn spoil_records(random: &mut Random, bytes: &mut Vec<u8>, kind: usize) {
+    let Some((first, number)) = records(bytes) else {
+        return;
+    };
+    let here = first + 2 * random.below(number);
+    let there = first + 2 * random.below(number);
+    let mut words = number;
+    match kind {
+        4 => {
+            // Two records change places.
+            bytes.swap(here, there);
+            bytes.swap(here + 1, there + 1);
+        }
+        5 => {
+            bytes.drain(here..here + 2);
+            words -= 1;
+        }
+        6 if number < 1_000 => {
+            // A record stands once more in another place.
+            let word = [bytes[here], bytes[here + 1]];
+            bytes.splice(there..there, word);
+            words += 1;
+        }
+        _ => bytes[here..here + 2].fill(random.within(0, 255) as u8),
+    }
+    bytes[0] = bytes[0] & 0xFC | (words >> 8) as u8;
+    bytes[1] = words as u8;
+}

@@ -1,0 +1,14 @@
+//! Differential tests: the proved code, called through its static libraries, beside the second
+//! implementation of the same rules. Every answer, every field and every lent byte must be equal.
+
+pub mod calls;
+pub mod compare;
+pub mod count;
+pub mod expect;
+pub mod ffi;
+pub mod journals;
+pub mod pair;
+pub mod plain;
+pub mod states;
+pub mod text;
+pub mod zones;

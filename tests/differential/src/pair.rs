@@ -1,0 +1,245 @@
+//! One run kept by both implementations, compared after every call.
+
+use crate::compare::{one, Difference};
+use crate::count::{Counts, Entry, Failure, Found};
+use crate::expect::{self, Made};
+use crate::ffi::{self, PlainAnswer, PlainReading, PlainRun};
+use crate::plain;
+use crate::text;
+use second::demand3::{self, Lines, Seen};
+use second::journal::decode;
+use second::random::{finish, Random};
+use second::site::{Call, Run};
+use second::zone::{Body, Mark};
+
+pub struct Pair<'a> {
+    /// The second implementation's run.
+    pub run: Run,
+    /// The proved code's run.
+    plain: PlainRun,
+    opening: Vec<u16>,
+    calls: Vec<(Call, u32)>,
+    /// Whether a provisional mark has turned firm.
+    turned: bool,
+    counts: &'a mut Counts,
+    /// Draws the lent bytes and the calls after which the writers are tried.
+    random: Random,
+    wait: u32,
+}
+
+/// Compares an opening with any arguments and gives the runs of both.
+pub fn open(counts: &mut Counts, count: u8, stocks: &[u16]) -> Result<(Run, PlainRun), Failure> {
+    let (refusal, run) = Run::open(u32::from(count), stocks);
+    let expected = PlainAnswer {
+        refusal: expect::number(refusal),
+        run: plain::plain_run(&run),
+    };
+    let proved = ffi::site_open(count, stocks);
+    let compared = counts.same(Entry::SiteOpen, &expected, &proved);
+    let call = || format!("site_open({count}, {stocks:?})");
+    compared.map_err(|found| Failure::new(String::new(), call(), found))?;
+    Ok((run, proved.run))
+}
+
+/// Says whether a provisional mark has turned firm between two moments.
+fn turned(before: &[Body], after: &[Body]) -> bool {
+    let was_provisional = |body: &Body| matches!(body.mark, Mark::Provisional(_));
+    before
+        .iter()
+        .zip(after)
+        .any(|(before, after)| was_provisional(before) && after.is_firm())
+}
+
+fn entry(call: Call) -> Entry {
+    match call {
+        Call::HandOver { .. } => Entry::SiteSend,
+        Call::Receipt { .. } => Entry::SiteReceive,
+        Call::Start { .. } => Entry::SiteStart,
+    }
+}
+
+/// Compares a call on one struct and gives the proved code's answer.
+pub fn call(
+    counts: &mut Counts,
+    p: &PlainRun,
+    call: Call,
+    expected: &PlainAnswer,
+) -> Result<PlainAnswer, Found> {
+    let proved = expect::proved(p, call);
+    counts.same(entry(call), expected, &proved)?;
+    Ok(proved)
+}
+
+/// Compares recording and journal writing of one struct with lent bytes of several lengths.
+pub fn writers(
+    counts: &mut Counts,
+    random: &mut Random,
+    p: &PlainRun,
+    recording: &Made,
+    journal: &Made,
+) -> Result<(), Found> {
+    for lent in recording.lents(random) {
+        let proved = expect::written(&lent, |out| ffi::site_record(p, out));
+        counts.same(Entry::SiteRecord, &recording.output(&lent), &proved)?;
+    }
+    for lent in journal.lents(random) {
+        let proved = expect::written(&lent, |out| ffi::journal_write(p, out));
+        counts.same(Entry::JournalWrite, &journal.output(&lent), &proved)?;
+    }
+    Ok(())
+}
+
+impl<'a> Pair<'a> {
+    /// Opens a run with stocks that are accepted.
+    pub fn open(
+        counts: &'a mut Counts,
+        random: &mut Random,
+        stocks: &[u16],
+    ) -> Result<Pair<'a>, Failure> {
+        let (run, plain) = open(counts, stocks.len() as u8, stocks)?;
+        Ok(Pair {
+            run,
+            plain,
+            opening: stocks.to_vec(),
+            calls: Vec::new(),
+            turned: false,
+            counts,
+            random: Random::new(u64::from(random.within(0, u32::MAX))),
+            wait: random.within(5, 300),
+        })
+    }
+
+    fn failure(&self, call: String, found: Found) -> Failure {
+        let opening = format!("  site_open with stocks {:?} -> 0\n", self.opening);
+        Failure::new(opening + &text::calls(&self.calls), call, found)
+    }
+
+    /// Makes a call on both and gives its number.
+    pub fn call(&mut self, made: Call) -> Result<u32, Failure> {
+        let before = self.run.zones;
+        let refusal = self.run.call(made);
+        let expected = PlainAnswer {
+            refusal: expect::number(refusal),
+            run: plain::plain_run(&self.run),
+        };
+        let proved = call(self.counts, &self.plain, made, &expected);
+        let proved = proved.map_err(|found| self.failure(text::call(made), found))?;
+        self.plain = proved.run;
+        self.calls.push((made, refusal));
+        self.turned |= turned(&before, &self.run.zones);
+        self.wait -= 1;
+        if self.wait == 0 {
+            self.wait = self.random.within(50, 800);
+            self.write()?;
+        }
+        Ok(refusal)
+    }
+
+    pub fn send(&mut self, from: u32, to: u32, cars: u8) -> Result<u32, Failure> {
+        self.call(Call::HandOver { from, to, cars })
+    }
+
+    pub fn receive(&mut self, from: u32, to: u32) -> Result<u32, Failure> {
+        self.call(Call::Receipt { from, to })
+    }
+
+    pub fn start(&mut self, zone: u32) -> Result<u32, Failure> {
+        self.call(Call::Start { zone })
+    }
+
+    /// Receives until no line holds a request, or no receipt is accepted.
+    pub fn finish(&mut self, random: &mut Random) -> Result<(), Failure> {
+        let mut ahead = self.run.clone();
+        finish(random, &mut ahead);
+        let records = self.run.records.len();
+        for &word in &ahead.records[records..] {
+            self.call(decode(word).expect("a record of a run is well formed"))?;
+        }
+        Ok(())
+    }
+
+    /// Compares everything that writes and reads at this moment, and checks demand 3 on the bytes
+    /// that the proved code wrote. Gives the recording.
+    fn write(&mut self) -> Result<Made, Failure> {
+        let recording = expect::recording(Some(&self.run));
+        let journal = expect::journal(Some(&self.run));
+        self.write_both(&recording, &journal)
+            .map_err(|found| self.failure("the writers and the reader".to_string(), found))?;
+        Ok(recording)
+    }
+
+    fn write_both(&mut self, recording: &Made, journal: &Made) -> Result<(), Found> {
+        let random = &mut self.random;
+        writers(self.counts, random, &self.plain, recording, journal)?;
+
+        // The journal that was written reads back as the same run and has the same recording.
+        let mut bytes = vec![0; journal.bytes.len()];
+        ffi::journal_write(&self.plain, &mut bytes);
+        let expected = PlainReading {
+            refusal: 0,
+            position: 0,
+            run: self.plain,
+        };
+        let proved = ffi::journal_read(&bytes);
+        self.counts.same(Entry::JournalRead, &expected, &proved)?;
+        for lent in recording.lents(random) {
+            let expected = recording.output(&lent);
+            let proved = expect::written(&lent, |out| ffi::journal_record(&bytes, out));
+            self.counts.same(Entry::JournalRecord, &expected, &proved)?;
+        }
+        self.demand_3()
+    }
+
+    /// Checks demand 3 on nothing but what the proved code showed.
+    fn demand_3(&mut self) -> Result<(), Found> {
+        let mut bytes = [0; 2_034];
+        let answer = ffi::site_record(&self.plain, &mut bytes);
+        let zones = self.opening.len();
+        let seen = Seen {
+            opening: self.opening.clone(),
+            calls: self.calls.clone(),
+            answer: u32::from(answer.refusal),
+            bytes: bytes[..answer.written].to_vec(),
+            stocks: self.plain.zones[..zones]
+                .iter()
+                .map(|zone| u64::from(zone.stock))
+                .collect(),
+            lines: lines(&self.plain, zones),
+        };
+        self.counts.comparisons += 1;
+        one("findings", vec![], demand3::check(&seen)).map_err(|difference: Difference| Found {
+            name: "demand 3",
+            expected: difference.expected.clone(),
+            proved: difference.proved.clone(),
+            difference: Box::new(difference),
+        })
+    }
+
+    /// Writes and reads once more after the last call, and counts a complete recording.
+    pub fn end(mut self) -> Result<(), Failure> {
+        let recording = self.write()?;
+        if recording.refusal != 0 {
+            return Ok(());
+        }
+        self.counts.turned += u64::from(self.turned);
+        let recorded = demand3::parse(self.opening.len(), &recording.bytes)
+            .expect("demand 3 has looked at the recording");
+        let above = recorded.lines.iter().flatten().any(|line| line.len() > 16);
+        self.counts.above += u64::from(above);
+        Ok(())
+    }
+}
+
+/// The hand-overs on the lines of a run, as numbers of cars.
+fn lines(p: &PlainRun, zones: usize) -> Lines {
+    let line = |a: usize, b: usize| -> Vec<u8> {
+        let first = 16 * plain::place(a, b);
+        let length = usize::from(p.lens[plain::place(a, b)]);
+        let words = &p.items[first..first + length];
+        let hand_overs = words.iter().filter(|&&word| word < 512);
+        hand_overs.map(|&word| (word % 256) as u8).collect()
+    };
+    (0..zones)
+        .map(|a| (0..zones).map(|b| line(a, b)).collect())
+        .collect()
+}

@@ -1,0 +1,44 @@
+//! What a report says of calls, runs and bytes.
+
+use crate::ffi::PlainRun;
+use second::site::{Call, PLACES};
+use std::fmt::Write;
+
+pub fn call(call: Call) -> String {
+    match call {
+        Call::HandOver { from, to, cars } => format!("site_send({from}, {to}, {cars})"),
+        Call::Receipt { from, to } => format!("site_receive({from}, {to})"),
+        Call::Start { zone } => format!("site_start({zone})"),
+    }
+}
+
+/// A list of calls with their numbers, one in each line.
+pub fn calls(calls: &[(Call, u32)]) -> String {
+    let mut lines = String::new();
+    for &(made, refusal) in calls {
+        writeln!(lines, "  {} -> {refusal}", call(made)).expect("a string takes any text");
+    }
+    lines
+}
+
+pub fn bytes(bytes: &[u8]) -> String {
+    let pairs: Vec<String> = bytes.iter().map(|byte| format!("{byte:02X}")).collect();
+    pairs.join(" ")
+}
+
+/// Every field of a run; of the lines and the journal, the places that do not hold 0.
+pub fn run(run: &PlainRun) -> String {
+    let mut lines = format!("  count {}, records {}\n", run.count, run.records);
+    for (index, zone) in run.zones.iter().enumerate() {
+        lines += &format!("  zones[{index}] {zone:?}\n");
+    }
+    lines += &format!("  opening {:?}\n", run.opening);
+    for (place, row) in run.items.chunks(PLACES).enumerate() {
+        if run.lens[place] != 0 || row.iter().any(|&word| word != 0) {
+            lines += &format!("  line {place}: length {}, {row:?}\n", run.lens[place]);
+        }
+    }
+    let last = run.journal.iter().rposition(|&word| word != 0);
+    let words = &run.journal[..last.map_or(0, |last| last + 1)];
+    lines + &format!("  journal {words:?}, then 0\n")
+}

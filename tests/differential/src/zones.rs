@@ -1,0 +1,261 @@
+//! The zone part: zones with any values, and lists of calls on one zone.
+
+use crate::compare::Answer;
+use crate::count::{Counts, Entry, Failure, Found};
+use crate::expect::number;
+use crate::ffi::{self, PlainOpening, PlainSaved, PlainStep, PlainZone};
+use crate::plain;
+use second::random::Random;
+use second::zone::{self, Zone};
+
+/// A step of the zone part with its arguments.
+#[derive(Clone, Copy, Debug)]
+enum Step {
+    Send { to: u8, cars: u8 },
+    Receive { from: u8, cars: u8, flag: u8 },
+    Request { set: u8 },
+    Start,
+}
+
+impl Step {
+    fn entry(self) -> Entry {
+        match self {
+            Step::Send { .. } => Entry::ZoneSend,
+            Step::Receive { .. } => Entry::ZoneReceive,
+            Step::Request { .. } => Entry::ZoneRequest,
+            Step::Start => Entry::ZoneStart,
+        }
+    }
+
+    fn proved(self, p: PlainZone) -> PlainStep {
+        match self {
+            Step::Send { to, cars } => ffi::zone_send(p, to, cars),
+            Step::Receive { from, cars, flag } => ffi::zone_receive(p, from, cars, flag),
+            Step::Request { set } => ffi::zone_request(p, set),
+            Step::Start => ffi::zone_start(p),
+        }
+    }
+
+    fn second(self, zone: Zone) -> (Zone, zone::Answer) {
+        match self {
+            Step::Send { to, cars } => zone.send(u32::from(to), cars),
+            Step::Receive { from, cars, flag } => {
+                zone.take_hand_over(u32::from(from), cars, flag != 0)
+            }
+            Step::Request { set } => zone.take_request(set),
+            Step::Start => zone.start(),
+        }
+    }
+
+    /// The answer that must come; refused, the struct comes back as it came.
+    fn expected(self, p: PlainZone) -> PlainStep {
+        let Some(zone) = plain::zone_of(&p) else {
+            return PlainStep {
+                zone: p,
+                refusal: 1,
+                flag: 0,
+                to: 0,
+                carried: 0,
+            };
+        };
+        let (next, answer) = self.second(zone);
+        PlainStep {
+            zone: if answer.refusal == 0 {
+                plain::plain_zone(&next)
+            } else {
+                p
+            },
+            refusal: number(answer.refusal),
+            flag: u8::from(answer.marked),
+            to: answer.requests.to,
+            carried: answer.requests.carried,
+        }
+    }
+}
+
+/// Compares an opening and gives its zone.
+fn open(counts: &mut Counts, count: u8, own: u8, stock: u16) -> Result<PlainZone, Failure> {
+    let (refusal, zone) = Zone::open(u32::from(own), u32::from(count), stock);
+    let expected = PlainOpening {
+        zone: plain::plain_zone(&zone),
+        refusal: number(refusal),
+    };
+    let proved = ffi::zone_open(count, own, stock);
+    let compared = counts.same(Entry::ZoneOpen, &expected, &proved);
+    let call = || format!("zone_open({count}, {own}, {stock})");
+    compared.map_err(|found| Failure::new(String::new(), call(), found))?;
+    Ok(proved.zone)
+}
+
+/// Compares a step and gives the zone of its answer.
+fn step(counts: &mut Counts, p: PlainZone, step: Step) -> Result<PlainZone, Found> {
+    let proved = step.proved(p);
+    counts.same(step.entry(), &step.expected(p), &proved)?;
+    sets(counts, proved.to)?;
+    Ok(proved.zone)
+}
+
+/// Compares the number of a set's zones and its lowest zone, which need no second implementation.
+fn sets(counts: &mut Counts, set: u8) -> Result<(), Found> {
+    let zones: Vec<u32> = (1..=8)
+        .filter(|zone| set & zone::only(*zone) != 0)
+        .collect();
+    let size = zones.len() as u32;
+    same(counts, Entry::ZoneRequests, size, ffi::zone_requests(set))?;
+    let lowest = zones.first().copied().unwrap_or(0);
+    let next = u32::from(ffi::zone_next(set));
+    same(counts, Entry::ZoneNext, lowest, next)
+}
+
+fn same<A: Answer>(counts: &mut Counts, entry: Entry, expected: A, proved: A) -> Result<(), Found> {
+    counts.same(entry, &expected, &proved)
+}
+
+fn byte(random: &mut Random) -> u8 {
+    random.within(0, 255) as u8
+}
+
+/// A zone number that is mostly on a site or just off it.
+fn near(random: &mut Random) -> u8 {
+    match random.below(8) {
+        0 => byte(random),
+        _ => random.within(0, 9) as u8,
+    }
+}
+
+/// A number with its edges: the values next to 0, to a limit and to the largest word.
+fn edged(random: &mut Random, limit: u16) -> u16 {
+    let near = limit.saturating_sub(random.within(0, 255) as u16);
+    let any = random.within(0, 65_535) as u16;
+    let edges = [0, 1, limit.wrapping_sub(1), limit, limit.wrapping_add(1)];
+    match random.below(4) {
+        0 => any,
+        1 => near,
+        _ => edges[random.below(edges.len())],
+    }
+}
+
+/// A zone of any values, most of them sound or nearly so.
+fn any_zone(random: &mut Random) -> PlainZone {
+    let count = match random.below(10) {
+        0 => near(random),
+        _ => random.within(2, 8) as u8,
+    };
+    let number = match random.below(10) {
+        0 => near(random),
+        _ => random.within(1, u32::from(count).max(1)) as u8,
+    };
+    let everybody = ((1_u32 << count.min(8)) - 1) as u8;
+    PlainZone {
+        number,
+        count,
+        deps: match random.below(10) {
+            0 => byte(random),
+            _ => byte(random) & everybody,
+        },
+        mark: match random.below(10) {
+            0 => byte(random),
+            _ => random.within(0, 2) as u8,
+        },
+        stock: edged(random, 65_535),
+        events: match random.below(3) {
+            0 => edged(random, 1_000),
+            _ => random.within(0, 1_000) as u16,
+        },
+        saved: PlainSaved {
+            stock: random.within(0, 65_535) as u16,
+            events: random.within(0, 65_535) as u16,
+        },
+    }
+}
+
+/// A zone number that is mostly another zone of the site.
+fn other(random: &mut Random, p: &PlainZone) -> u8 {
+    if random.chance(30) || !(2..=8).contains(&p.count) {
+        return near(random);
+    }
+    let step = random.within(0, u32::from(p.count) - 2) as u8;
+    (p.number % p.count + step) % p.count + 1
+}
+
+fn any_step(random: &mut Random, p: &PlainZone) -> Step {
+    let everybody = ((1_u32 << p.count.min(8)) - 1) as u8;
+    match random.below(8) {
+        0..=2 => Step::Send {
+            to: other(random, p),
+            cars: byte(random),
+        },
+        3..=5 => Step::Receive {
+            from: other(random, p),
+            cars: byte(random),
+            flag: [0, 1, byte(random)][random.below(3)],
+        },
+        6 => Step::Request {
+            set: match random.below(4) {
+                0 => byte(random),
+                _ => byte(random) & everybody,
+            },
+        },
+        _ => Step::Start,
+    }
+}
+
+/// A zone of any values with one step of any kind.
+fn single(counts: &mut Counts, p: PlainZone, made: Step) -> Result<(), Failure> {
+    let stepped = step(counts, p, made);
+    stepped.map_err(|found| Failure::new(format!("  {p:?}\n"), format!("{made:?}"), found))?;
+    Ok(())
+}
+
+/// A list of steps on one zone from its opening on; the long ones pass 1,000 own events.
+fn list(counts: &mut Counts, random: &mut Random, length: usize) -> Result<(), Failure> {
+    let count = random.within(2, 8) as u8;
+    let own = random.within(1, u32::from(count)) as u8;
+    let opened = open(counts, count, own, edged(random, 65_535))?;
+    let (mut p, mut steps) = (opened, Vec::new());
+    for _ in 0..length {
+        let made = any_step(random, &p);
+        let stepped = step(counts, p, made);
+        p = stepped.map_err(|found| {
+            let before = format!("  {opened:?}\n  {steps:?}\n");
+            Failure::new(before, format!("{made:?}"), found)
+        })?;
+        steps.push(made);
+    }
+    Ok(())
+}
+
+/// Zones of any values, each with one step, an opening with any values and a list of steps.
+pub fn trial(counts: &mut Counts, random: &mut Random, index: usize) -> Result<(), Failure> {
+    for _ in 0..40 {
+        let p = any_zone(random);
+        single(counts, p, any_step(random, &p))?;
+    }
+    open(counts, near(random), near(random), edged(random, 65_535))?;
+    let length = match index % 100 {
+        0 => 2_500,
+        _ => 40,
+    };
+    list(counts, random, length)
+}
+
+/// Every count with every number, every set, and every mark kind with every flag byte.
+pub fn every(counts: &mut Counts, random: &mut Random) -> Result<(), Failure> {
+    for first in 0..=255 {
+        let counted = sets(counts, first);
+        counted.map_err(|found| Failure::new(String::new(), format!("the set {first}"), found))?;
+        for second in 0..=255 {
+            open(counts, first, second, edged(random, 65_535))?;
+            let mut p = any_zone(random);
+            p.mark = first;
+            let made = Step::Receive {
+                from: other(random, &p),
+                cars: byte(random),
+                flag: second,
+            };
+            single(counts, p, made)?;
+            single(counts, p, any_step(random, &p))?;
+        }
+    }
+    Ok(())
+}

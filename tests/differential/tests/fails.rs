@@ -1,0 +1,246 @@
+//! The comparison can fail: every kind of wrong answer is reported, and so is a missed floor.
+
+use differential::compare::{Answer, Output};
+use differential::count::{Counts, Entry, ENTRIES, LEAST_ABOVE, LEAST_ANSWERS, LEAST_TURNED};
+use differential::expect::{self, Made};
+use differential::ffi::{self, PlainAnswer, PlainReading, PlainRun, PlainStep};
+use differential::pair;
+use differential::plain::place;
+use second::generate::{bytes_of, case_b};
+use second::site::Call;
+
+const SEND: Call = Call::HandOver {
+    from: 1,
+    to: 2,
+    cars: 4,
+};
+
+/// A run of three zones with 10, 20 and 30 cars, as the proved code opens it.
+fn opened() -> PlainRun {
+    let answer = ffi::site_open(3, &[10, 20, 30]);
+    assert_eq!(answer.refusal, 0);
+    answer.run
+}
+
+/// The field in which a changed answer is reported to differ from the right one.
+fn field<A: Answer + Clone>(right: &A, change: impl FnOnce(&mut A)) -> String {
+    let mut wrong = right.clone();
+    assert_eq!(right.check(&wrong), Ok(()), "equal answers are equal");
+    change(&mut wrong);
+    let difference = right.check(&wrong).expect_err("a changed answer differs");
+    let reverse = wrong.check(right).expect_err("either way round");
+    assert_eq!(difference.field, reverse.field);
+    assert_ne!(difference.expected, difference.proved);
+    difference.field
+}
+
+fn sent() -> PlainAnswer {
+    let answer = ffi::site_send(&opened(), 1, 2, 4);
+    assert_eq!(answer.refusal, 0);
+    answer
+}
+
+#[test]
+fn a_wrong_refusal_is_found() {
+    assert_eq!(field(&sent(), |answer| answer.refusal = 7), "refusal");
+}
+
+#[test]
+fn a_changed_field_of_the_site_is_found() {
+    let right = sent();
+    let changed = |change: fn(&mut PlainRun)| field(&right, |answer| change(&mut answer.run));
+    assert_eq!(changed(|run| run.count = 4), "run.count");
+    assert_eq!(changed(|run| run.records = 0), "run.records");
+    assert_eq!(changed(|run| run.zones[0].stock += 1), "run.zones[0].stock");
+    assert_eq!(
+        changed(|run| run.zones[2].events = 1),
+        "run.zones[2].events"
+    );
+    assert_eq!(changed(|run| run.zones[1].deps = 3), "run.zones[1].deps");
+    assert_eq!(changed(|run| run.zones[1].mark = 1), "run.zones[1].mark");
+    assert_eq!(changed(|run| run.opening[0] = 9), "run.opening[0]");
+    assert_eq!(changed(|run| run.lens[1] = 2), "run.lens[1]");
+    assert_eq!(changed(|run| run.items[16] = 260), "run.items[16]");
+    assert_eq!(changed(|run| run.journal[0] = 0), "run.journal[0]");
+}
+
+#[test]
+fn a_change_in_unused_storage_is_found() {
+    let right = sent();
+    let changed = |change: fn(&mut PlainRun)| field(&right, |answer| change(&mut answer.run));
+    // Behind the last item of a line, behind the last record and behind an unmarked zone.
+    assert_eq!(changed(|run| run.items[17] = 1), "run.items[17]");
+    assert_eq!(changed(|run| run.journal[1] = 1), "run.journal[1]");
+    assert_eq!(
+        changed(|run| run.zones[0].saved.stock = 10),
+        "run.zones[0].saved"
+    );
+    // Off the site.
+    assert_eq!(changed(|run| run.zones[7].deps = 0), "run.zones[7].deps");
+    assert_eq!(changed(|run| run.opening[7] = 1), "run.opening[7]");
+    assert_eq!(changed(|run| run.lens[63] = 1), "run.lens[63]");
+    assert_eq!(changed(|run| run.items[1023] = 1), "run.items[1023]");
+}
+
+#[test]
+fn a_wrong_answer_of_the_reader_is_found() {
+    let right: PlainReading = ffi::journal_read(&[0x24, 0x01, 0, 1, 0, 1, 0xC0, 0]);
+    assert_eq!((right.refusal, right.position), (18, 0));
+    assert_eq!(field(&right, |reading| reading.position = 1), "position");
+    assert_eq!(field(&right, |reading| reading.refusal = 19), "refusal");
+    let changed = field(&right, |reading| reading.run.zones[1].stock = 1);
+    assert_eq!(changed, "run.zones[1].stock");
+}
+
+/// The recording of case B with some more bytes lent.
+fn recorded() -> (Made, Output) {
+    let journal = bytes_of(&case_b());
+    let made = expect::recording(Some(&case_b()));
+    let lent = vec![7; made.bytes.len() + 5];
+    let output = expect::written(&lent, |out| ffi::journal_record(&journal, out));
+    assert_eq!(made.output(&lent).check(&output), Ok(()));
+    (made, output)
+}
+
+#[test]
+fn a_wrong_answer_of_a_writer_is_found() {
+    let (made, right) = recorded();
+    let last = made.bytes.len() - 1;
+    let changed = |place: usize| field(&right, |output| output.bytes[place] ^= 1);
+    assert_eq!(changed(0), "bytes[0]");
+    assert_eq!(changed(last), format!("bytes[{last}]"));
+    // Behind the written bytes, and behind the lent ones.
+    assert_eq!(changed(last + 1), format!("bytes[{}]", last + 1));
+    assert_eq!(changed(last + 6), format!("bytes[{}]", last + 6));
+    let field = |change: fn(&mut Output)| field(&right, change);
+    assert_eq!(field(|output| output.answer.written -= 1), "written");
+    assert_eq!(field(|output| output.answer.position = 1), "position");
+    assert_eq!(field(|output| output.answer.refusal = 14), "refusal");
+    assert_eq!(
+        field(|output| {
+            output.bytes.pop();
+        }),
+        "length of bytes"
+    );
+}
+
+#[test]
+fn a_wrong_answer_of_a_zone_is_found() {
+    let opened = ffi::zone_open(3, 1, 10);
+    assert_eq!(field(&opened, |answer| answer.zone.stock = 9), "zone.stock");
+    assert_eq!(field(&opened, |answer| answer.refusal = 2), "refusal");
+    let heard = ffi::zone_receive(opened.zone, 2, 1, 0);
+    let right = ffi::zone_start(heard.zone);
+    let field = |change: fn(&mut PlainStep)| field(&right, change);
+    assert_eq!(field(|step| step.to = 0), "to");
+    assert_eq!(field(|step| step.carried = 1), "carried");
+    assert_eq!(field(|step| step.flag = 1), "flag");
+    assert_eq!(field(|step| step.zone.mark = 1), "zone.mark");
+    assert_eq!(field(|step| step.zone.saved.events = 0), "zone.saved");
+    assert_eq!(field(|step| step.zone.number = 2), "zone.number");
+}
+
+/// A whole comparison of a call fails when anything else is expected.
+#[test]
+fn a_call_against_a_wrong_expectation_fails() {
+    let mut counts = Counts::default();
+    let run = opened();
+    let mut expected = expect::answer(&run, SEND);
+    assert!(pair::call(&mut counts, &run, SEND, &expected).is_ok());
+    assert_eq!(counts.times[Entry::SiteSend as usize][0], 1);
+    expected.run.zones[3].stock = 1;
+    let found = pair::call(&mut counts, &run, SEND, &expected).expect_err("a stock off the site");
+    assert_eq!(found.difference.field, "run.zones[3].stock");
+    assert_eq!(counts.times[Entry::SiteSend as usize][0], 1);
+}
+
+/// A number that a call cannot give is a failure even where both give it.
+#[test]
+fn a_number_outside_the_list_of_a_call_is_found() {
+    let mut counts = Counts::default();
+    let answer = PlainAnswer {
+        refusal: 20,
+        run: opened(),
+    };
+    let found = counts.same(Entry::SiteReceive, &answer, &answer);
+    let difference = found
+        .expect_err("the site engine never gives 20")
+        .difference;
+    assert_eq!(difference.proved, "20");
+    assert_eq!(counts.times, Counts::default().times);
+}
+
+#[test]
+fn a_missed_floor_is_reported() {
+    let numbers: usize = ENTRIES.iter().map(|(_, numbers)| numbers.len()).sum();
+    assert_eq!(Counts::default().missed().len(), numbers + 2);
+    let mut counts = Counts {
+        times: [[LEAST_ANSWERS; 21]; ENTRIES.len()],
+        turned: LEAST_TURNED,
+        above: LEAST_ABOVE,
+        comparisons: 0,
+    };
+    assert_eq!(counts.missed(), Vec::<String>::new());
+    counts.times[Entry::SiteStart as usize][10] -= 1;
+    let missed = counts.missed();
+    assert_eq!(missed.len(), 1);
+    assert!(missed[0].contains("site_start answering 10: 99 times"));
+    counts.times[Entry::SiteStart as usize][10] += 1;
+    counts.turned -= 1;
+    assert!(counts.missed()[0].contains("turned firm: 999 times"));
+    counts.turned += 1;
+    counts.above -= 1;
+    assert!(counts.missed()[0].contains("above 16: 99 times"));
+}
+
+/// Which states the second implementation cannot hold, and what is looked at nowhere.
+#[test]
+fn unused_storage_is_judged_by_the_contract() {
+    let refusal = |change: fn(&mut PlainRun)| {
+        let mut run = opened();
+        change(&mut run);
+        let expected = expect::answer(&run, SEND);
+        assert_eq!(expected.check(&expect::proved(&run, SEND)), Ok(()));
+        expected.refusal
+    };
+    assert_eq!(refusal(|run| run.zones[7].mark = 3), 1);
+    assert_eq!(refusal(|run| run.zones[7].mark = 2), 0);
+    assert_eq!(refusal(|run| run.zones[7].stock = 65_535), 0);
+    assert_eq!(refusal(|run| run.records = 1_001), 1);
+    assert_eq!(refusal(|run| run.count = 9), 1);
+    assert_eq!(refusal(|run| run.lens[place(0, 1)] = 17), 1);
+    assert_eq!(refusal(|run| run.lens[place(0, 1)] = 16), 8);
+    assert_eq!(refusal(|run| run.lens[place(0, 0)] = 17), 0);
+    assert_eq!(refusal(|run| run.lens[place(0, 3)] = 255), 0);
+    assert_eq!(refusal(|run| run.items[16 * place(2, 0)] = 768), 0);
+    let word = |run: &mut PlainRun, word: u16| {
+        run.lens[place(2, 0)] = 1;
+        run.items[16 * place(2, 0)] = word;
+    };
+    let refused = |number: u16| {
+        let mut run = opened();
+        word(&mut run, number);
+        expect::answer(&run, SEND).refusal
+    };
+    assert_eq!(
+        [refused(519), refused(520), refused(767), refused(768)],
+        [0, 1, 1, 1]
+    );
+}
+
+/// What an accepted call does to storage without a meaning.
+#[test]
+fn an_accepted_receipt_moves_all_places_of_its_line() {
+    let mut run = sent().run;
+    for place in 17..32 {
+        run.items[place] = place as u16;
+    }
+    run.zones[5].saved.stock = 9;
+    let receipt = Call::Receipt { from: 1, to: 2 };
+    let answer = expect::answer(&run, receipt);
+    assert_eq!(answer.refusal, 0);
+    assert_eq!(answer.run.items[16..20], [17, 18, 19, 20]);
+    assert_eq!(answer.run.items[31], 0);
+    assert_eq!(answer.run.zones[5].saved.stock, 0);
+    assert_eq!(answer.check(&expect::proved(&run, receipt)), Ok(()));
+}
