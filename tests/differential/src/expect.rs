@@ -19,11 +19,13 @@ fn zone(zone: u32) -> u8 {
 
 /// Makes a call on the proved code.
 pub fn proved(p: &PlainRun, call: Call) -> PlainAnswer {
-    match call {
-        Call::HandOver { from, to, cars } => ffi::site_send(p, zone(from), zone(to), cars),
-        Call::Receipt { from, to } => ffi::site_receive(p, zone(from), zone(to)),
-        Call::Start { zone: starter } => ffi::site_start(p, zone(starter)),
-    }
+    let mut run = *p;
+    let refusal = match call {
+        Call::HandOver { from, to, cars } => ffi::site_send(&mut run, zone(from), zone(to), cars),
+        Call::Receipt { from, to } => ffi::site_receive(&mut run, zone(from), zone(to)),
+        Call::Start { zone: starter } => ffi::site_start(&mut run, zone(starter)),
+    };
+    PlainAnswer { refusal, run }
 }
 
 /// The line that loses an item when a call is accepted.

@@ -60,6 +60,43 @@ pub struct PlainRun {
     pub journal: [u16; 1000],
 }
 
+/// The first fields of a run, which the library takes and hands back by value.
+#[repr(C)]
+#[derive(Clone, Copy, Debug, PartialEq, Eq)]
+struct PlainHead {
+    count: u8,
+    records: u16,
+    zones: [PlainLocal; 8],
+    opening: [u16; 8],
+}
+
+#[repr(C)]
+#[derive(Clone, Copy, Debug, PartialEq, Eq)]
+struct PlainTurn {
+    refusal: u8,
+    head: PlainHead,
+}
+
+impl PlainRun {
+    fn head(&self) -> PlainHead {
+        PlainHead {
+            count: self.count,
+            records: self.records,
+            zones: self.zones,
+            opening: self.opening,
+        }
+    }
+
+    /// Stores what a call handed back beside the lent arrays, and gives the refusal.
+    fn turn(&mut self, turn: PlainTurn) -> u8 {
+        self.count = turn.head.count;
+        self.records = turn.head.records;
+        self.zones = turn.head.zones;
+        self.opening = turn.head.opening;
+        turn.refusal
+    }
+}
+
 #[repr(C)]
 #[derive(Clone, Copy, Debug, PartialEq, Eq)]
 pub struct PlainAnswer {
@@ -89,6 +126,8 @@ const _: () = assert!(size_of::<PlainOpening>() == 14);
 const _: () = assert!(size_of::<PlainStep>() == 16);
 const _: () = assert!(size_of::<PlainLocal>() == 10);
 const _: () = assert!(size_of::<PlainRun>() == 4_212);
+const _: () = assert!(size_of::<PlainHead>() == 100);
+const _: () = assert!(size_of::<PlainTurn>() == 102);
 const _: () = assert!(size_of::<PlainAnswer>() == 4_214);
 const _: () = assert!(size_of::<PlainReading>() == 4_232);
 const _: () = assert!(size_of::<PlainWritten>() == 24);
@@ -107,11 +146,46 @@ mod raw {
         pub fn zone_requests(to: u8) -> u32;
         pub fn zone_next(set: u8) -> u8;
         pub fn site_open(count: u8, stocks: *const u16, n: usize) -> PlainAnswer;
-        pub fn site_send(run: PlainRun, from: u8, to: u8, cars: u8) -> PlainAnswer;
-        pub fn site_receive(run: PlainRun, from: u8, to: u8) -> PlainAnswer;
-        pub fn site_start(run: PlainRun, zone: u8) -> PlainAnswer;
-        pub fn site_record(run: PlainRun, out: *mut u8, size: usize) -> PlainWritten;
-        pub fn journal_write(run: PlainRun, out: *mut u8, size: usize) -> PlainWritten;
+        pub fn site_send(
+            head: PlainHead,
+            items: *mut u16,
+            lens: *mut u8,
+            journal: *mut u16,
+            from: u8,
+            to: u8,
+            cars: u8,
+        ) -> PlainTurn;
+        pub fn site_receive(
+            head: PlainHead,
+            items: *mut u16,
+            lens: *mut u8,
+            journal: *mut u16,
+            from: u8,
+            to: u8,
+        ) -> PlainTurn;
+        pub fn site_start(
+            head: PlainHead,
+            items: *mut u16,
+            lens: *mut u8,
+            journal: *mut u16,
+            zone: u8,
+        ) -> PlainTurn;
+        pub fn site_record(
+            head: PlainHead,
+            items: *const u16,
+            lens: *const u8,
+            journal: *const u16,
+            out: *mut u8,
+            size: usize,
+        ) -> PlainWritten;
+        pub fn journal_write(
+            head: PlainHead,
+            items: *const u16,
+            lens: *const u8,
+            journal: *const u16,
+            out: *mut u8,
+            size: usize,
+        ) -> PlainWritten;
         pub fn journal_read(bytes: *const u8, size: usize) -> PlainReading;
         pub fn journal_record(
             bytes: *const u8,
@@ -157,24 +231,61 @@ pub fn site_open(count: u8, stocks: &[u16]) -> PlainAnswer {
     unsafe { raw::site_open(count, stocks.as_ptr(), stocks.len()) }
 }
 
-pub fn site_send(run: &PlainRun, from: u8, to: u8, cars: u8) -> PlainAnswer {
-    unsafe { raw::site_send(*run, from, to, cars) }
+/// The arrays of a run, to be lent.
+macro_rules! lent {
+    ($run:ident) => {
+        (
+            $run.items.as_mut_ptr(),
+            $run.lens.as_mut_ptr(),
+            $run.journal.as_mut_ptr(),
+        )
+    };
 }
 
-pub fn site_receive(run: &PlainRun, from: u8, to: u8) -> PlainAnswer {
-    unsafe { raw::site_receive(*run, from, to) }
+pub fn site_send(run: &mut PlainRun, from: u8, to: u8, cars: u8) -> u8 {
+    let (items, lens, journal) = lent!(run);
+    let turn = unsafe { raw::site_send(run.head(), items, lens, journal, from, to, cars) };
+    run.turn(turn)
 }
 
-pub fn site_start(run: &PlainRun, zone: u8) -> PlainAnswer {
-    unsafe { raw::site_start(*run, zone) }
+pub fn site_receive(run: &mut PlainRun, from: u8, to: u8) -> u8 {
+    let (items, lens, journal) = lent!(run);
+    let turn = unsafe { raw::site_receive(run.head(), items, lens, journal, from, to) };
+    run.turn(turn)
+}
+
+pub fn site_start(run: &mut PlainRun, zone: u8) -> u8 {
+    let (items, lens, journal) = lent!(run);
+    let turn = unsafe { raw::site_start(run.head(), items, lens, journal, zone) };
+    run.turn(turn)
 }
 
 pub fn site_record(run: &PlainRun, out: &mut [u8]) -> PlainWritten {
-    unsafe { raw::site_record(*run, out.as_mut_ptr(), out.len()) }
+    let (items, lens, journal) = (run.items.as_ptr(), run.lens.as_ptr(), run.journal.as_ptr());
+    unsafe {
+        raw::site_record(
+            run.head(),
+            items,
+            lens,
+            journal,
+            out.as_mut_ptr(),
+            out.len(),
+        )
+    }
 }
 
 pub fn journal_write(run: &PlainRun, out: &mut [u8]) -> PlainWritten {
-    unsafe { raw::journal_write(*run, out.as_mut_ptr(), out.len()) }
+    let (items, lens, journal) = (run.items.as_ptr(), run.lens.as_ptr(), run.journal.as_ptr());
+    unsafe {
+        raw::journal_write(
+            run.head(),
+            items,
+            lens,
+            journal,
+            out.as_mut_ptr(),
+            out.len(),
+        )
+    }
 }
 
 pub fn journal_read(bytes: &[u8]) -> PlainReading {

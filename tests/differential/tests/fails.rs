@@ -35,7 +35,7 @@ fn field<A: Answer + Clone>(right: &A, change: impl FnOnce(&mut A)) -> String {
 }
 
 fn sent() -> PlainAnswer {
-    let answer = ffi::site_send(&opened(), 1, 2, 4);
+    let answer = expect::proved(&opened(), SEND);
     assert_eq!(answer.refusal, 0);
     answer
 }

@@ -1,0 +1,80 @@
+//! The same calls of the second implementation.
+
+use crate::Once;
+use second::print::MOST_BYTES;
+use second::site::{Call, Run};
+use second::zone::{Answer, Zone};
+use second::{journal, recording};
+use std::hint::black_box;
+use std::rc::Rc;
+
+/// The call of a name, on what a journal gives.
+pub fn call(name: &str, bytes: Vec<u8>) -> Option<Once> {
+    let run = Rc::new(journal::read(&bytes).run);
+    let zone = Zone::open(1, run.count, 100).1;
+    on_run(name, run)
+        .or_else(|| on_zone(name, zone))
+        .or_else(|| on_bytes(name, bytes))
+}
+
+fn changed(run: Rc<Run>, call: Option<Call>) -> Once {
+    Box::new(move || {
+        let mut copy = Run::clone(black_box(&run));
+        let refusal = call.map_or(0, |call| copy.call(black_box(call)));
+        black_box(&copy);
+        refusal
+    })
+}
+
+fn on_run(name: &str, run: Rc<Run>) -> Option<Once> {
+    let (from, to) = (1, 2);
+    Some(match name {
+        "copy" => changed(run, None),
+        "open" => Box::new(move || {
+            let stocks = &black_box(&run.opening)[..run.size()];
+            black_box(&Run::open(run.count, stocks)).0
+        }),
+        "send" => changed(run, Some(Call::HandOver { from, to, cars: 3 })),
+        "receive" => changed(run, Some(Call::Receipt { from, to })),
+        "start" => changed(run, Some(Call::Start { zone: 1 })),
+        "record" => writing(move |lent| recording::write(black_box(&run), lent).0),
+        "write" => writing(move |lent| journal::write(black_box(&run), lent).0),
+        _ => return None,
+    })
+}
+
+/// A call that writes into lent bytes.
+fn writing(write: impl Fn(&mut [u8]) -> u32 + 'static) -> Once {
+    Box::new(move || {
+        let mut lent = [0; MOST_BYTES];
+        let refusal = write(&mut lent);
+        black_box(&lent);
+        refusal
+    })
+}
+
+fn on_bytes(name: &str, bytes: Vec<u8>) -> Option<Once> {
+    let recorded = |bytes: &[u8], lent: &mut [u8]| match journal::read(bytes) {
+        reading if reading.refusal == 0 => recording::write(&reading.run, lent).0,
+        reading => reading.refusal,
+    };
+    Some(match name {
+        "read" => Box::new(move || black_box(&journal::read(&bytes)).refusal),
+        "read-record" => writing(move |lent| recorded(&bytes, lent)),
+        _ => return None,
+    })
+}
+
+fn on_zone(name: &str, zone: Zone) -> Option<Once> {
+    let stepped = |step: fn(Zone) -> (Zone, Answer)| -> Once {
+        Box::new(move || black_box(&step(*black_box(&zone))).1.refusal)
+    };
+    Some(match name {
+        "zone-open" => Box::new(move || black_box(&Zone::open(1, black_box(zone.count), 100)).0),
+        "zone-send" => stepped(|zone| zone.send(2, 3)),
+        "zone-receive" => stepped(|zone| zone.take_hand_over(2, 3, true)),
+        "zone-request" => stepped(|zone| zone.take_request(2)),
+        "zone-start" => stepped(Zone::start),
+        _ => return None,
+    })
+}
