@@ -1,12 +1,10 @@
-/* A control room's desk: case A of the product's rules, from the opening to the recording's bytes, then the same from the journal alone.
- * Prints the recording; exits 1 if a value is not as it must be. */
+/* A control room's desk: a whole run of three zones with 10, 20 and 30 cars, from the opening to the recording's bytes, then the same from
+ * the journal alone. Prints the recording; exits 1 if a value is not as it must be. */
 #include <stdio.h>
 #include <stdlib.h>
 #include <string.h>
 
 #include "site.h"
-
-_Static_assert(sizeof(cut_run) == 4212, "a run has 4,212 bytes");
 
 static const uint8_t journal[] = {0x28, 0x09, 0x00, 0x0A, 0x00, 0x14, 0x00, 0x1E, 0x01, 0x04, 0x41, 0x00, 0x11,
                                   0x05, 0x02, 0x02, 0x88, 0x00, 0x0A, 0x07, 0x4A, 0x00, 0x42, 0x00, 0x48, 0x00};
@@ -36,6 +34,18 @@ static void traffic(void)
     must(cut_receive(&run, 1, 3) == 0, "3 takes the 2 cars");
 }
 
+/* The journal read back, and one whose fourth record (at position 3) hands over more cars than zone 1 has. */
+static void damaged(void)
+{
+    uint8_t other[sizeof journal];
+    cut_reading r = journal_read(journal, sizeof journal);
+    must(r.refusal == 0 && r.run.head.records == 9 && r.run.head.zones[1].stock == 17, "the journal reads back");
+    memcpy(other, journal, sizeof journal);
+    other[15] = 200;
+    r = journal_read(other, sizeof other);
+    must(r.refusal == 19 && r.position == 3 && r.run.head.count == 2, "a wrong record is refused with its position");
+}
+
 int main(void)
 {
     const uint16_t stocks[] = {10, 20, 30};
@@ -49,16 +59,17 @@ int main(void)
 
     cut_written w = cut_write(&run, bytes, sizeof bytes);
     must(w.refusal == 0 && w.written == sizeof journal, "the journal is written");
-    must(memcmp(bytes, journal, sizeof journal) == 0, "the journal is that of case A");
+    must(memcmp(bytes, journal, sizeof journal) == 0, "the journal is as worked out by hand");
     w = cut_record(&run, bytes, sizeof bytes);
     must(w.refusal == 0 && w.written == sizeof recording, "the recording is written");
-    must(memcmp(bytes, recording, sizeof recording) == 0, "the recording is that of case A");
+    must(memcmp(bytes, recording, sizeof recording) == 0, "the recording is as worked out by hand");
 
     memset(bytes, 0, sizeof bytes);
     w = journal_record(journal, sizeof journal, bytes, sizeof bytes);
     must(w.refusal == 0 && w.written == sizeof recording, "the journal's recording is written");
     must(memcmp(bytes, recording, sizeof recording) == 0, "it is the same");
     must(journal_record(journal, sizeof journal - 1, bytes, sizeof bytes).refusal == 17, "a cut journal is refused");
+    damaged();
 
     cut_run unsound = run;
     unsound.head.zones[7].mark = 3;

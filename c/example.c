@@ -1,10 +1,9 @@
-/* Three controllers on lines of their own: case B of the product's rules. Prints each zone's count; exits 1 if a value is not as it must be. */
+/* Three controllers of 10 cars each on lines of their own, and one recording. Prints each zone's mark; exits 1 if a value is not as it must
+ * be. */
 #include <stdio.h>
 #include <stdlib.h>
 
 #include "zone.h"
-
-_Static_assert(sizeof(cut_zone) == 12, "a zone has 12 bytes");
 
 /* An item on a line: a hand-over (request 0) or a request with its set. */
 typedef struct {
@@ -25,6 +24,7 @@ static void must(int holds, const char *what)
 
 static void put(uint8_t from, uint8_t to, item i)
 {
+    must(last[from][to] < 8, "the line has room");
     lines[from][to][last[from][to]++] = i;
 }
 
@@ -50,6 +50,7 @@ static void send(uint8_t from, uint8_t to, uint8_t cars)
 
 static void receive(uint8_t from, uint8_t to)
 {
+    must(first[from][to] < last[from][to], "the line holds an item");
     item i = lines[from][to][first[from][to]];
     cut_step r = i.request ? zone_request(zones[to], i.set) : zone_receive(zones[to], from, i.cars, i.flag);
     must(r.refusal == 0, "receive");
@@ -79,8 +80,8 @@ int main(void)
     receive(2, 3);
     for (int k = 1; k <= 3; k++)
         printf("zone %d: mark %d, events %d, stock %d\n", k, zones[k].mark, zones[k].saved.events, zones[k].saved.stock);
-    must(zones[3].mark == 2 && zones[3].saved.events == 1 && zones[3].saved.stock == 9, "zone 3 of case B");
-    must(zones[1].saved.stock == 11 && zones[2].saved.stock == 10, "zones 1 and 2 of case B");
+    must(zones[3].mark == 2 && zones[3].saved.events == 1 && zones[3].saved.stock == 9, "zone 3");
+    must(zones[1].saved.stock == 11 && zones[2].saved.stock == 10, "zones 1 and 2");
 
     cut_zone unsound = zones[1];
     unsound.mark = 3;
