@@ -2,7 +2,7 @@
 use mathlib.Core.Path.{_≡_, refl, sym, _∙_, ap, ap₂, subst}
 use mathlib.Core.Bool.{Bool, true, false, cond, false≢true}
 use mathlib.Core.Logic.{inl, inr}
-use mathlib.Core.List.{List, [], _∷_, append-nil}
+use mathlib.Core.List.{List, [], _∷_, append-nil, map}
 use Prim.Native.Nat.{ℕ, _≤_, _<_}
 use native.Mathlib.Omega.{arith}
 use borrow.Author.Tests.{le-leb, leb-false, ltb-true}
@@ -21,12 +21,13 @@ use Rattle.run.specs.State.{zoneAt, hasStarted}
 use Rattle.run.proofs.BelowLaws.{any-none}
 use Rattle.run.specs.declared.Run.{Run}
 use Rattle.run.proofs.Whole.{open-whole, after-whole}
-use Rattle.journal.specs.Format.{Record}
+use Rattle.journal.specs.Format.{Record, consCall}
+use Rattle.journal.specs.Format as format
 use Rattle.journal.specs.Writing.{isReplayed, Output, refusedOutput, writtenOutput}
 use Rattle.journal.proofs.Replays.{named}
 use Rattle.journal.proofs.TrueRuns.{true-tells, true-replayed}
 use Rattle.journal.proofs.Words.{decode-record}
-use Rattle.recording.specs.Call.{callIn, callsIn, noRequests, snapshotOf, recordCall}
+use Rattle.recording.specs.Call.{callsIn, noRequests, snapshotOf, recordCall}
 use Rattle.recording.specs.Layout.{recordingBytes}
 use Rattle.recording.specs.Shown.{shownIn}
 use Rattle.recording.proofs.Complete.{complete-if, if-complete}
@@ -43,7 +44,7 @@ calls-decoded (c ∷ cs) r t = go (isAccepted c r) refl (calls-decoded cs (answe
     go : (b : Bool) → isAccepted c r ≡ b → callsIn (acceptedRecords cs (answer c r .run)) ≡ acceptedCalls cs (answer c r .run)
         → callsIn (cons-if b (recordOf c) (acceptedRecords cs (answer c r .run))) ≡ cons-if b (callOf c) (acceptedCalls cs (answer c r .run))
     go true e h =
-        ap (λ (x : Record). callIn x (callsIn (acceptedRecords cs (answer c r .run)))) (decode-record c (t .0) (named c r e))
+        ap (λ (x : Record). map callOf (consCall x (format.callsIn (acceptedRecords cs (answer c r .run))))) (decode-record c (t .0) (named c r e))
         ∙ ap (λ (l : List Call). callOf c ∷ l) h
     go false e h = h
 

@@ -19,7 +19,7 @@ use Rattle.channel.specs.Channels.{place}
 use Rattle.run.specs.Calls.{openCall}
 use Rattle.run.specs.Claims.{WholeRun, Typed, recordOf}
 use Rattle.run.specs.Layout.{sendRecord, receiveRecord}
-use Rattle.run.specs.Lists.{SiteCall, Send, Receive, Start, answer, callOf, isAccepted}
+use Rattle.run.specs.Lists.{SiteCall, Send, Receive, Start, answer, callOf, isAccepted, actor}
 use Rattle.run.specs.Model.{siteOf, stocksOf}
 use Rattle.run.specs.State.{zoneAt, openedRun}
 use Rattle.run.specs.declared.Answer.{Answer}
@@ -29,7 +29,7 @@ use Rattle.run.proofs.Parts.{zone-on, parts}
 use Rattle.run.proofs.Refine.{refine, opened-site}
 use Rattle.run.proofs.Whole.{call-whole, opened-whole}
 use Rattle.journal.specs.Format.{call}
-use Rattle.journal.specs.Owns.{actor, numberOf, ownNumber, ownNumbers}
+use Rattle.journal.specs.Owns.{numberOf, ownNumber, ownNumbers}
 use Rattle.journal.specs.Reading.{replayed}
 use Rattle.recording.specs.Call.{callsIn}
 use Rattle.recording.specs.Layout.{channelWords}

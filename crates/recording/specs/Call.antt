@@ -1,6 +1,6 @@
 -- The recording call: "Recording: 1, 12, 13, 14."
 use mathlib.Core.Bool.{Bool, not, _||_}
-use mathlib.Core.List.{List, [], _∷_}
+use mathlib.Core.List.{List, [], _∷_, map}
 use Prim.Native.Nat.{ℕ, _*_}
 use lib.Dec.{leb}
 use lib.ListN.{length, take}
@@ -15,18 +15,13 @@ use Rattle.run.specs.Lists.{callOf}
 use Rattle.run.specs.Model.{stocksOf}
 use Rattle.run.specs.State.{isChannel, hasStarted}
 use Rattle.run.specs.declared.Run.{Run}
-use Rattle.journal.specs.Format.{Record, call, malformed, decode}
+use Rattle.journal.specs.Format as format
 use Rattle.journal.specs.Writing.{isReplayed, Output, refusedOutput, writtenOutput}
 use Rattle.recording.specs.Layout.{recordingBytes}
 
 -- The calls of some records, in order, as the rules have them.
-abbrev pub callIn : Record → List Call → List Call
-callIn (call c) cs = callOf c ∷ cs
-callIn malformed cs = cs
-
 abbrev pub callsIn : List ℕ → List Call
-callsIn [] = []
-callsIn (w ∷ ws) = callIn (decode w) (callsIn ws)
+callsIn ws = map callOf (format.callsIn ws)
 
 -- The recording of a run, by the rules applied to its opening and its journal's calls.
 abbrev pub snapshotOf : Run → Snapshot

@@ -23,7 +23,7 @@ use Rattle.channel.specs.declared.Channels.{Channels}
 use Rattle.rules.specs.Below.{sum}
 use Rattle.run.specs.State.{zoneAt, isSound, hasStarted, openedRun}
 use Rattle.run.specs.Calls.{refused, accepted, isPair, hasRoom, taken, openCall, sendCall, receiveCall, startCall}
-use Rattle.run.specs.Lists.{SiteCall, Send, Receive, Start, answer, callOf, isAccepted}
+use Rattle.run.specs.Lists.{SiteCall, Send, Receive, Start, actor, answer, callOf, isAccepted}
 use Rattle.run.specs.Claims.{recordOf, answers, Among}
 use Rattle.run.specs.declared.Run.{Run}
 use Rattle.run.specs.declared.Answer.{Answer}
@@ -60,12 +60,7 @@ ask-cases {A} (q ∷ qs) f x = go (q .yes) refl (ask-cases qs f x)
     go true e (inr h) = inr (h .0, inr (h .1), h .2)
     go false e h = inr (q .number, inl refl, refl)
 
--- The zone that acts, the state that it takes, and the channels after the call, where it is accepted.
-abbrev pub actor : SiteCall → ℕ
-actor (Send from to cars) = index from
-actor (Receive from to) = index to
-actor (Start zone) = index zone
-
+-- The state that the acting zone takes, and the channels after the call, where it is accepted.
 abbrev pub gotBy : ℕ → ℕ → Run → Asked
 gotBy a b r = taken a b (itemOf (firstOf (r .channels) (place a b))) (zoneAt (r .zones) b)
 

@@ -9,11 +9,11 @@ use Rattle.channel.specs.Channels.{Whole, place, popped}
 use Rattle.channel.proofs.View.{push-whole, pop-whole, requested-whole}
 use Rattle.run.specs.State.{openedRun}
 use Rattle.run.specs.Calls.{openCall}
-use Rattle.run.specs.Lists.{SiteCall, Send, Receive, Start, answer, after}
+use Rattle.run.specs.Lists.{SiteCall, Send, Receive, Start, actor, answer, after}
 use Rattle.run.specs.Claims.{WholeRun}
 use Rattle.run.specs.declared.Run.{Run}
 use Rattle.run.specs.declared.Answer.{Answer}
-use Rattle.run.proofs.Outcome.{actor, zoneAfter, channelsAfter, granted, Passed, Refused, outcome, Opened, NotOpened, open-outcome}
+use Rattle.run.proofs.Outcome.{zoneAfter, channelsAfter, granted, Passed, Refused, outcome, Opened, NotOpened, open-outcome}
 
 channels-whole : (c : SiteCall) (r : Run) → Whole (r .channels) → Whole (channelsAfter c r)
 channels-whole (Send from to cars) r w = push-whole (r .channels) _ _ w

@@ -30,6 +30,12 @@ callOf (Send from to cars) = send (index from) (index to) cars
 callOf (Receive from to) = receive (index from) (index to)
 callOf (Start zone) = start (index zone)
 
+-- The index of the zone that acts in a call: the sender, the receiver, the zone that starts.
+abbrev pub actor : SiteCall → ℕ
+actor (Send from to cars) = index from
+actor (Receive from to) = index to
+actor (Start zone) = index zone
+
 -- "An accepted call is one that answered 0."
 abbrev pub isAccepted : SiteCall → Run → Bool
 isAccepted c r = eqb (answer c r .refusal) 0
