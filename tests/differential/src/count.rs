@@ -76,6 +76,15 @@ impl Failure {
     }
 }
 
+fn found<A: Answer>(entry: Entry, difference: Difference, expected: &A, proved: &A) -> Found {
+    Found {
+        name: ENTRIES[entry as usize].0,
+        difference: Box::new(difference),
+        expected: expected.text(),
+        proved: proved.text(),
+    }
+}
+
 #[derive(Clone, Debug, Default)]
 pub struct Counts {
     /// Times by call, then by refusal number.
@@ -90,15 +99,21 @@ pub struct Counts {
 impl Counts {
     /// Compares two answers whole and counts the number that both give.
     pub fn same<A: Answer>(&mut self, entry: Entry, expected: &A, proved: &A) -> Result<(), Found> {
+        self.equal(entry, expected, proved)?;
+        let counted = self.number(entry, proved.refusal());
+        counted.map_err(|difference| found(entry, difference, expected, proved))
+    }
+
+    /// Compares two answers whole whose number is counted elsewhere.
+    pub fn equal<A: Answer>(
+        &mut self,
+        entry: Entry,
+        expected: &A,
+        proved: &A,
+    ) -> Result<(), Found> {
         self.comparisons += 1;
         let checked = expected.check(proved);
-        let checked = checked.and_then(|()| self.number(entry, proved.refusal()));
-        checked.map_err(|difference| Found {
-            name: ENTRIES[entry as usize].0,
-            difference: Box::new(difference),
-            expected: expected.text(),
-            proved: proved.text(),
-        })
+        checked.map_err(|difference| found(entry, difference, expected, proved))
     }
 
     /// Counts a number; one that the call cannot give is a difference, whoever gave it.

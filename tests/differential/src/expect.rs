@@ -2,6 +2,7 @@
 
 use crate::compare::Output;
 use crate::ffi::{self, PlainAnswer, PlainReading, PlainRun, PlainWritten};
+use crate::header;
 use crate::plain;
 use second::print::MOST_BYTES;
 use second::random::Random;
@@ -24,6 +25,17 @@ pub fn proved(p: &PlainRun, call: Call) -> PlainAnswer {
         Call::HandOver { from, to, cars } => ffi::site_send(&mut run, zone(from), zone(to), cars),
         Call::Receipt { from, to } => ffi::site_receive(&mut run, zone(from), zone(to)),
         Call::Start { zone: starter } => ffi::site_start(&mut run, zone(starter)),
+    };
+    PlainAnswer { refusal, run }
+}
+
+/// Makes a call by the header's inline function.
+pub fn by_header(p: &PlainRun, call: Call) -> PlainAnswer {
+    let mut run = *p;
+    let refusal = match call {
+        Call::HandOver { from, to, cars } => header::send(&mut run, zone(from), zone(to), cars),
+        Call::Receipt { from, to } => header::receive(&mut run, zone(from), zone(to)),
+        Call::Start { zone: starter } => header::start(&mut run, zone(starter)),
     };
     PlainAnswer { refusal, run }
 }

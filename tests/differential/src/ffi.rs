@@ -63,22 +63,22 @@ pub struct PlainRun {
 /// The first fields of a run, which the library takes and hands back by value.
 #[repr(C)]
 #[derive(Clone, Copy, Debug, PartialEq, Eq)]
-struct PlainHead {
-    count: u8,
-    records: u16,
-    zones: [PlainLocal; 8],
-    opening: [u16; 8],
+pub struct PlainHead {
+    pub count: u8,
+    pub records: u16,
+    pub zones: [PlainLocal; 8],
+    pub opening: [u16; 8],
 }
 
 #[repr(C)]
 #[derive(Clone, Copy, Debug, PartialEq, Eq)]
-struct PlainTurn {
-    refusal: u8,
-    head: PlainHead,
+pub struct PlainTurn {
+    pub refusal: u8,
+    pub head: PlainHead,
 }
 
 impl PlainRun {
-    fn head(&self) -> PlainHead {
+    pub fn head(&self) -> PlainHead {
         PlainHead {
             count: self.count,
             records: self.records,

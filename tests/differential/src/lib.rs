@@ -6,6 +6,7 @@ pub mod compare;
 pub mod count;
 pub mod expect;
 pub mod ffi;
+pub mod header;
 pub mod journals;
 pub mod pair;
 pub mod plain;

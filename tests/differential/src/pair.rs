@@ -4,6 +4,7 @@ use crate::compare::{one, Difference};
 use crate::count::{Counts, Entry, Failure, Found};
 use crate::expect::{self, Made};
 use crate::ffi::{self, PlainAnswer, PlainReading, PlainRun};
+use crate::header;
 use crate::plain;
 use crate::text;
 use second::demand3::{self, Lines, Seen};
@@ -36,9 +37,27 @@ pub fn open(counts: &mut Counts, count: u8, stocks: &[u16]) -> Result<(Run, Plai
     };
     let proved = ffi::site_open(count, stocks);
     let compared = counts.same(Entry::SiteOpen, &expected, &proved);
+    let compared = compared.and_then(|()| open_by_header(counts, count, stocks, &expected));
     let call = || format!("site_open({count}, {stocks:?})");
     compared.map_err(|found| Failure::new(String::new(), call(), found))?;
     Ok((run, proved.run))
+}
+
+/// Compares the header's opening, which leaves the run as it was where it is refused.
+fn open_by_header(
+    counts: &mut Counts,
+    count: u8,
+    stocks: &[u16],
+    accepted: &PlainAnswer,
+) -> Result<(), Found> {
+    let before = plain::ZEROS;
+    let mut expected = *accepted;
+    if expected.refusal != 0 {
+        expected.run = before;
+    }
+    let mut run = before;
+    let refusal = header::open(&mut run, count, stocks);
+    counts.equal(Entry::SiteOpen, &expected, &PlainAnswer { refusal, run })
 }
 
 /// Says whether a provisional mark has turned firm between two moments.
@@ -67,6 +86,7 @@ pub fn call(
 ) -> Result<PlainAnswer, Found> {
     let proved = expect::proved(p, call);
     counts.same(entry(call), expected, &proved)?;
+    counts.equal(entry(call), expected, &expect::by_header(p, call))?;
     Ok(proved)
 }
 
@@ -81,10 +101,14 @@ pub fn writers(
     for lent in recording.lents(random) {
         let proved = expect::written(&lent, |out| ffi::site_record(p, out));
         counts.same(Entry::SiteRecord, &recording.output(&lent), &proved)?;
+        let by_header = expect::written(&lent, |out| header::record(p, out));
+        counts.equal(Entry::SiteRecord, &proved, &by_header)?;
     }
     for lent in journal.lents(random) {
         let proved = expect::written(&lent, |out| ffi::journal_write(p, out));
         counts.same(Entry::JournalWrite, &journal.output(&lent), &proved)?;
+        let by_header = expect::written(&lent, |out| header::write(p, out));
+        counts.equal(Entry::JournalWrite, &proved, &by_header)?;
     }
     Ok(())
 }

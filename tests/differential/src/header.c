@@ -1,0 +1,106 @@
+/* The calls of c/site.h that are inline functions, and sums over the fields of the headers' structs by their names, so that the headers
+ * themselves are compared. */
+#include "site.h"
+
+uint8_t header_open(cut_run *run, uint8_t count, const uint16_t *stocks, size_t n)
+{
+    return cut_open(run, count, stocks, n);
+}
+
+uint8_t header_send(cut_run *run, uint8_t from, uint8_t to, uint8_t cars)
+{
+    return cut_send(run, from, to, cars);
+}
+
+uint8_t header_receive(cut_run *run, uint8_t from, uint8_t to)
+{
+    return cut_receive(run, from, to);
+}
+
+uint8_t header_start(cut_run *run, uint8_t zone)
+{
+    return cut_start(run, zone);
+}
+
+cut_written header_record(const cut_run *run, uint8_t *out, size_t size)
+{
+    return cut_record(run, out, size);
+}
+
+cut_written header_write(const cut_run *run, uint8_t *out, size_t size)
+{
+    return cut_write(run, out, size);
+}
+
+static uint64_t add(uint64_t sum, uint64_t value)
+{
+    return sum * 1000003 + value + 1;
+}
+
+static uint64_t add_saved(uint64_t sum, cut_saved saved)
+{
+    return add(add(sum, saved.stock), saved.events);
+}
+
+static uint64_t add_zone(uint64_t sum, const cut_zone *zone)
+{
+    sum = add(add(sum, zone->number), zone->count);
+    sum = add(add(sum, zone->deps), zone->mark);
+    return add_saved(add(add(sum, zone->stock), zone->events), zone->saved);
+}
+
+uint64_t header_opening_sum(const cut_opening *opening)
+{
+    return add(add_zone(0, &opening->zone), opening->refusal);
+}
+
+uint64_t header_step_sum(const cut_step *step)
+{
+    uint64_t sum = add(add(add_zone(0, &step->zone), step->refusal), step->flag);
+    return add(add(sum, step->to), step->carried);
+}
+
+static uint64_t add_head(uint64_t sum, const cut_head *head)
+{
+    sum = add(add(sum, head->count), head->records);
+    for (int k = 0; k < 8; k++) {
+        const cut_local *zone = &head->zones[k];
+        sum = add(add(add(add(sum, zone->stock), zone->events), zone->deps), zone->mark);
+        sum = add_saved(sum, zone->saved);
+    }
+    for (int k = 0; k < 8; k++)
+        sum = add(sum, head->opening[k]);
+    return sum;
+}
+
+static uint64_t add_run(uint64_t sum, const cut_run *run)
+{
+    sum = add_head(sum, &run->head);
+    for (int k = 0; k < 1024; k++)
+        sum = add(sum, run->items[k]);
+    for (int k = 0; k < 64; k++)
+        sum = add(sum, run->lens[k]);
+    for (int k = 0; k < 1000; k++)
+        sum = add(sum, run->journal[k]);
+    return sum;
+}
+
+uint64_t header_answer_sum(const cut_answer *answer)
+{
+    return add_run(add(0, answer->refusal), &answer->run);
+}
+
+uint64_t header_turn_sum(const cut_turn *turn)
+{
+    return add_head(add(0, turn->refusal), &turn->head);
+}
+
+uint64_t header_reading_sum(const cut_reading *reading)
+{
+    return add_run(add(add(0, reading->refusal), reading->position), &reading->run);
+}
+
+uint64_t header_written_sum(const cut_written *written)
+{
+    return add(add(add(0, written->refusal), written->position), written->written);
+}

@@ -1,0 +1,75 @@
+//! The calls of the C headers: the inline functions of c/site.h, which take the parts of a run to
+//! the library and back, and sums over the fields of the structs by the names that C has.
+
+use crate::ffi::{
+    PlainAnswer, PlainOpening, PlainReading, PlainRun, PlainStep, PlainTurn, PlainWritten,
+};
+
+mod raw {
+    use super::*;
+
+    extern "C" {
+        pub fn header_open(run: *mut PlainRun, count: u8, stocks: *const u16, n: usize) -> u8;
+        pub fn header_send(run: *mut PlainRun, from: u8, to: u8, cars: u8) -> u8;
+        pub fn header_receive(run: *mut PlainRun, from: u8, to: u8) -> u8;
+        pub fn header_start(run: *mut PlainRun, zone: u8) -> u8;
+        pub fn header_record(run: *const PlainRun, out: *mut u8, size: usize) -> PlainWritten;
+        pub fn header_write(run: *const PlainRun, out: *mut u8, size: usize) -> PlainWritten;
+        pub fn header_opening_sum(opening: *const PlainOpening) -> u64;
+        pub fn header_step_sum(step: *const PlainStep) -> u64;
+        pub fn header_answer_sum(answer: *const PlainAnswer) -> u64;
+        pub fn header_turn_sum(turn: *const PlainTurn) -> u64;
+        pub fn header_reading_sum(reading: *const PlainReading) -> u64;
+        pub fn header_written_sum(written: *const PlainWritten) -> u64;
+    }
+}
+
+// Each pointer is that of a Rust reference or slice, so the calls are safe.
+
+pub fn open(run: &mut PlainRun, count: u8, stocks: &[u16]) -> u8 {
+    unsafe { raw::header_open(run, count, stocks.as_ptr(), stocks.len()) }
+}
+
+pub fn send(run: &mut PlainRun, from: u8, to: u8, cars: u8) -> u8 {
+    unsafe { raw::header_send(run, from, to, cars) }
+}
+
+pub fn receive(run: &mut PlainRun, from: u8, to: u8) -> u8 {
+    unsafe { raw::header_receive(run, from, to) }
+}
+
+pub fn start(run: &mut PlainRun, zone: u8) -> u8 {
+    unsafe { raw::header_start(run, zone) }
+}
+
+pub fn record(run: &PlainRun, out: &mut [u8]) -> PlainWritten {
+    unsafe { raw::header_record(run, out.as_mut_ptr(), out.len()) }
+}
+
+pub fn write(run: &PlainRun, out: &mut [u8]) -> PlainWritten {
+    unsafe { raw::header_write(run, out.as_mut_ptr(), out.len()) }
+}
+
+/// The sum that C makes of a struct's fields by their names.
+pub trait Summed {
+    fn sum(&self) -> u64;
+}
+
+macro_rules! summed {
+    ($($plain:ty => $sum:ident),* $(,)?) => {
+        $(impl Summed for $plain {
+            fn sum(&self) -> u64 {
+                unsafe { raw::$sum(self) }
+            }
+        })*
+    };
+}
+
+summed! {
+    PlainOpening => header_opening_sum,
+    PlainStep => header_step_sum,
+    PlainAnswer => header_answer_sum,
+    PlainTurn => header_turn_sum,
+    PlainReading => header_reading_sum,
+    PlainWritten => header_written_sum,
+}
