@@ -6,3 +6,4 @@ pub mod Complete
 pub mod Bounds
 pub mod Sized
 pub mod Shows
+pub mod Read

@@ -1,0 +1,59 @@
+-- The recording of a run that was read from a journal is never refused with 1, and with 2,034 bytes never with 14. Assumes nothing.
+use mathlib.Core.Path.{_≡_, refl, sym, subst}
+use mathlib.Core.Bool.{Bool, true, false, cond}
+use mathlib.Core.Logic.{_≢_}
+use mathlib.Core.List.{List}
+use Prim.Native.Nat.{ℕ, _≤_}
+use native.Mathlib.Omega.{arith}
+use lib.Dec.{leb}
+use lib.ListN.{length}
+use borrow.Author.Tests.{le-leb}
+use Rattle.run.specs.Claims.{WholeRun}
+use Rattle.run.specs.State.{hasStarted}
+use Rattle.run.specs.declared.Run.{Run}
+use Rattle.run.proofs.Whole.{after-whole, open-whole}
+use Rattle.journal.specs.Format.{callsIn}
+use Rattle.journal.specs.Reading.{zonesOf, stocksIn, recordsIn, readCall}
+use Rattle.journal.specs.Writing.{Output, refusedOutput, writtenOutput}
+use Rattle.journal.proofs.Accepted.{read-comes, read-replayed}
+use Rattle.recording.specs.Call.{noRequests, snapshotOf, recordCall}
+use Rattle.recording.specs.Layout.{recordingBytes}
+use Rattle.recording.proofs.Sized.{recording-most}
+
+-- What is left of the recording call's questions.
+abbrev asked : Bool → Bool → Bool → List ℕ → Output → Output
+asked started free enough lent x = cond started (cond free (cond enough x (refusedOutput lent 14)) (refusedOutput lent 13)) (refusedOutput lent 12)
+
+never-1 : (a b c : Bool) (lent : List ℕ) (x : Output) → x .answer .refusal ≡ 0 → asked a b c lent x .answer .refusal ≢ 1
+never-1 true true true lent x e h = absurd (omega (arith, e, h))
+never-1 true true false lent x e h = absurd (omega (arith, h))
+never-1 true false c lent x e h = absurd (omega (arith, h))
+never-1 false b c lent x e h = absurd (omega (arith, h))
+
+never-14 : (a b : Bool) (lent : List ℕ) (x : Output) → x .answer .refusal ≡ 0 → asked a b true lent x .answer .refusal ≢ 14
+never-14 true true lent x e h = absurd (omega (arith, e, h))
+never-14 true false lent x e h = absurd (omega (arith, h))
+never-14 false b lent x e h = absurd (omega (arith, h))
+
+module _ (bytes lent : List ℕ) (e : readCall bytes .refusal ≡ 0) where
+  abbrev read : Run
+  read = readCall bytes .run
+
+  abbrev shown : List ℕ
+  shown = recordingBytes (read .count) (snapshotOf read)
+
+  pub read-never-1 : recordCall read lent .answer .refusal ≢ 1
+  unfolding recordCall
+  read-never-1 =
+      rw (read-replayed bytes e)
+      (never-1 (hasStarted (read .count) (read .zones)) (noRequests (read .count) (read .channels)) (leb (length shown) (length lent)) lent (writtenOutput lent shown) refl)
+
+  whole : WholeRun read
+  whole = let h = read-comes bytes e in subst WholeRun (sym (h .result)) (after-whole (callsIn (recordsIn bytes)) _ (open-whole (zonesOf bytes) (stocksIn bytes)))
+
+  pub read-never-14 : 2034 ≤ length lent → recordCall read lent .answer .refusal ≢ 14
+  unfolding recordCall
+  read-never-14 h =
+      let m = recording-most read whole (read-replayed bytes e) in
+      rw (read-replayed bytes e, le-leb (length shown) (length lent) (omega (arith, m, h)))
+      (never-14 (hasStarted (read .count) (read .zones)) (noRequests (read .count) (read .channels)) lent (writtenOutput lent shown) refl)
