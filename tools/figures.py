@@ -85,7 +85,7 @@ def programs(folder):
             a, first = callgrind([PROVED], path)
             b, other = callgrind([SECOND], path)
             assert first == other and not first.startswith(b"refused"), (first, other)
-            print(f"| {zones} | {records:,} | {a:,} | {b:,} | {1e6 * seconds(PROVED, path):.0f} µs | {1e6 * seconds(SECOND, path):.0f} µs |")
+            print(f"| {zones} | {records:,} | {a:,} | {b:,} | {1e6 * seconds(PROVED, path):,.0f} µs | {1e6 * seconds(SECOND, path):,.0f} µs |")
 
 
 def row(label, values):
