@@ -1,4 +1,4 @@
--- Laws on numbers that the proofs share. Assumes nothing.
+-- Laws on numbers that the proofs share.
 use mathlib.Core.Path.{_≡_, sym, _∙_}
 use mathlib.Core.Bool.{Bool, true, false}
 use mathlib.Core.Logic.{_⊎_, inl, inr, ⊎-elim}

@@ -1,5 +1,5 @@
 -- What the rules do to one zone: when it is marked, when its checkpoint is permanent, what its checkpoint keeps, and who is in its
--- dependency set. Assumes nothing.
+-- dependency set.
 use mathlib.Core.Path.{_≡_, refl, sym, _∙_, ap}
 use mathlib.Core.Bool.{Bool, true, false, _&&_, _||_, not, or-false, true≢false}
 use Prim.Native.Nat.{ℕ}

@@ -1,5 +1,4 @@
 -- A replay that is not refused keeps the number of cars, so the recorded park and the present one have as many cars as the opening.
--- Assumes nothing.
 use mathlib.Core.Path.{_≡_, refl, sym, _∙_, ap}
 use mathlib.Core.Bool.{Bool, true, false, _&&_, true≢false, false≢true}
 use mathlib.Core.Logic.{_≢_, inl, inr}
@@ -9,10 +8,11 @@ use Prim.Native.Nat.{ℕ, zero, suc, _+_, _-_, _≤_, _<_}
 use native.Mathlib.Omega.{arith}
 use lib.Dec.{eqb, leb}
 use borrow.Author.Tests.{leb-true, ne-eqb}
+use Rattle.rules.specs.Opening.{Opening}
 use Rattle.rules.specs.Change.{join, cons-if}
 use Rattle.rules.specs.Site.{Item, message, request, Site, Call, send, receive, start, stepS, openS}
 use Rattle.rules.specs.Below.{sum, sumBelow}
-use Rattle.rules.specs.Park.{Park, Move, hand, take, emptyPark, handed, taken, handIf, takeIf, step, replay, isInside, counted, insideFrom, inside, total, Within}
+use Rattle.rules.specs.Park.{Park, Move, hand, take, openPark, handed, taken, handIf, takeIf, step, replay, isInside, counted, insideFrom, inside, total, Within}
 use Rattle.rules.specs.Cut.{Allowed, run, taking, moveOf, moves, Complete, present, snapshot}
 use Rattle.rules.proofs.Tests.{Same, same?, eqb-refl, other-receiver}
 use Rattle.rules.proofs.Guarded.{on-true, on-false}
@@ -21,7 +21,7 @@ use Rattle.rules.proofs.Tagged.{Event, TaggedPark, Steps}
 use Rattle.rules.proofs.Untagged.{plain, plain-steps}
 use Rattle.rules.proofs.History.{History, openH, history, movesOf, now-run, moves-open}
 use Rattle.rules.proofs.Kept.{fresh-open, calls-keep}
-use Rattle.rules.proofs.Cutting.{parkOf, plain-park, emptyT, inFirst, inSecond, cuts-kept, cuts-open}
+use Rattle.rules.proofs.Cutting.{parkOf, plain-park, openT, inFirst, inSecond, cuts-kept, cuts-open}
 use Rattle.rules.proofs.Consistency.{consistent}
 
 sum-same : (n : ℕ) (f g : ℕ → ℕ) → ((k : ℕ) → k < n → f k ≡ g k) → sumBelow n f ≡ sumBelow n g
@@ -128,7 +128,7 @@ conserved n (m ∷ ms) p q w e = go (step m p) refl e (λ r. conserved n ms r q 
     go (some r) s e ih = ih r e ∙ step-total n m p r (w .0) s
 
 -- The cars of the opening.
-open-total : (n : ℕ) (v : ℕ → ℕ) → total n (emptyPark v) ≡ sumBelow n v
+open-total : (n : ℕ) (v : Opening) → total n (openPark v) ≡ sumBelow n (v .stocks)
 open-total n v = let q = zeros n (λ i. sumBelow n (λ j. 0)) (λ i. zeros n (λ j. 0) (λ j. refl)) in omega arith
   where
     zeros : (n : ℕ) (f : ℕ → ℕ) → ((k : ℕ) → f k ≡ 0) → sumBelow n f ≡ 0
@@ -178,14 +178,14 @@ all-second : (es : List Event) → keep (inSecond (λ z. false)) es ≡ es
 all-second [] = refl
 all-second (e ∷ es) = ap (λ l. e ∷ l) (all-second es)
 
-pub replayed : (v : ℕ → ℕ) (cs : List Call) → Allowed cs (openS v)
-    → replay (moves cs (openS v)) (some (emptyPark v)) ≡ some (present (run cs (openS v)))
+pub replayed : (v : Opening) (cs : List Call) → Allowed cs (openS v)
+    → replay (moves cs (openS v)) (some (openPark v)) ≡ some (present (run cs (openS v)))
 replayed v cs allowed =
     let cuts = (calls-keep _ (cuts-kept v) cs (openH v) (fresh-open v) allowed (cuts-open v)) .1 in
     let r = cuts (λ z. false) (λ j i f _. absurd (false≢true f)) in
-    let opens : emptyT v ≡ r .middle = rw (none-first (h .log)) at (r .first) in
+    let opens : openT v ≡ r .middle = rw (none-first (h .log)) at (r .first) in
     let steps : Steps (h .log) (r .middle) (parkOf h) = rw (all-second (h .log)) at (r .second) in
-    ap (λ (ms : List Move). replay ms (some (emptyPark v))) (sym (moves-open v cs))
+    ap (λ (ms : List Move). replay ms (some (openPark v))) (sym (moves-open v cs))
     ∙ ap (λ (S : TaggedPark). replay (movesOf h) (some (plain S))) opens
     ∙ plain-steps (h .log) (r .middle) (parkOf h) steps
     ∙ ap some (plain-park h ∙ ap present (now-run cs (openH v)))
@@ -194,19 +194,19 @@ replayed v cs allowed =
     h = history cs (openH v)
 
 -- So the present park has the cars of the opening.
-pub present-total : (n : ℕ) (v : ℕ → ℕ) (cs : List Call) → All (Between n) cs → Allowed cs (openS v)
-    → total n (present (run cs (openS v))) ≡ sumBelow n v
+pub present-total : (n : ℕ) (v : Opening) (cs : List Call) → All (Between n) cs → Allowed cs (openS v)
+    → total n (present (run cs (openS v))) ≡ sumBelow n (v .stocks)
 present-total n v cs zones allowed =
-    conserved n (moves cs (openS v)) (emptyPark v) (present (run cs (openS v))) (moves-within n cs (openS v) zones)
+    conserved n (moves cs (openS v)) (openPark v) (present (run cs (openS v))) (moves-within n cs (openS v) zones)
     (replayed v cs allowed)
     ∙ open-total n v
 
 -- And so has the recorded park.
-pub recorded-total : (n : ℕ) (v : ℕ → ℕ) (cs : List Call) → All (Between n) cs → Allowed cs (openS v) → Complete (run cs (openS v))
-    → total n ((snapshot v cs) .park) ≡ sumBelow n v
+pub recorded-total : (n : ℕ) (v : Opening) (cs : List Call) → All (Between n) cs → Allowed cs (openS v) → Complete (run cs (openS v))
+    → total n ((snapshot v cs) .park) ≡ sumBelow n (v .stocks)
 recorded-total n v cs zones allowed complete =
     let shown = (snapshot v cs) .events in
-    conserved n (inside shown (moves cs (openS v))) (emptyPark v) ((snapshot v cs) .park)
+    conserved n (inside shown (moves cs (openS v))) (openPark v) ((snapshot v cs) .park)
     (all-inside (Within n) shown (λ k. 0) (moves cs (openS v)) (moves-within n cs (openS v) zones))
     ((consistent v cs allowed complete) .first)
     ∙ open-total n v

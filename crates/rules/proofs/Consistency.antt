@@ -1,4 +1,4 @@
--- The recording of allowed calls that complete is a consistent cut of them: demand 3, over the rules. Assumes nothing.
+-- The recording of allowed calls that complete is a consistent cut of them: demand 3, over the rules.
 use mathlib.Core.Path.{_≡_, refl, sym, _∙_, ap, subst}
 use mathlib.Core.Bool.{Bool, true, false, _&&_, _||_, not, false≢true}
 use mathlib.Core.Logic.{_⊎_, inl, inr}
@@ -8,10 +8,11 @@ use Prim.Native.Nat.{ℕ, suc, _≤_, _<_}
 use native.Mathlib.Omega.{arith}
 use lib.Dec.{eqb}
 use borrow.Author.Tests.{eqb-true}
+use Rattle.rules.specs.Opening.{Opening}
 use Rattle.rules.specs.Change.{on, cons-if}
 use Rattle.rules.specs.Zone.{isPermanent, withCheckpoint}
 use Rattle.rules.specs.Site.{Site, Call, openS, waits}
-use Rattle.rules.specs.Park.{Park, Move, emptyPark, replay, inside, outside, takes}
+use Rattle.rules.specs.Park.{Park, Move, openPark, replay, inside, outside, takes}
 use Rattle.rules.specs.Cut.{Allowed, run, moves, Complete, present, eventsOf, stockOf, channelOf, snapshot, Starting, Cut}
 use Rattle.rules.specs.declared.Local.{Local}
 use Rattle.rules.specs.declared.Checkpoint.{Checkpoint}
@@ -25,7 +26,7 @@ use Rattle.rules.proofs.History.{History, openH, IsPermanent, movesOf, 
 use Rattle.rules.proofs.Kept.{Fresh, fresh-open, fresh-calls, calls-keep}
 use Rattle.rules.proofs.Requests.{Due, Flow, flow-kept, flow-open, due-permanent}
 use Rattle.rules.proofs.Dependencies.{isSender, senderOf, Senders, senders-kept, senders-open}
-use Rattle.rules.proofs.Cutting.{parkOf, plain-park, emptyT, inFirst, inSecond, Closed, held, Halves, Cuts, cuts-kept, cuts-open}
+use Rattle.rules.proofs.Cutting.{parkOf, plain-park, openT, inFirst, inSecond, Closed, held, Halves, Cuts, cuts-kept, cuts-open}
 use Rattle.rules.proofs.Counting.{Fit, Counts, counts-kept, counts-open}
 use Rattle.rules.proofs.Shown.{marked-once, zone-events, starting-initiator, initiator-starting, initiator-events}
 
@@ -116,18 +117,18 @@ recordedAt s k = isPermanent (s .zone k .checkpoint)
 abbrev eventsShown : Site → ℕ → ℕ
 eventsShown s k = eventsOf (s .zone k .checkpoint)
 
-abbrev parkShown : (ℕ → ℕ) → Site → List Move → Park
-parkShown v s ms = record { stock = λ k. stockOf (s .zone k .checkpoint) (v k); channel = channelOf (inside (eventsShown s) ms) }
+abbrev parkShown : Opening → Site → List Move → Park
+parkShown v s ms = record { stock = λ k. stockOf (s .zone k .checkpoint) (v .stocks k); channel = channelOf (inside (eventsShown s) ms) }
 
-record CutOf (v : ℕ → ℕ) (s : Site) (ms : List Move) (initiator : Option ℕ) : Type 1 where
-  first : replay (inside (eventsShown s) ms) (some (emptyPark v)) ≡ some (parkShown v s ms)
+record CutOf (v : Opening) (s : Site) (ms : List Move) (initiator : Option ℕ) : Type 1 where
+  first : replay (inside (eventsShown s) ms) (some (openPark v)) ≡ some (parkShown v s ms)
   second : replay (outside (eventsShown s) ms) (some (parkShown v s ms)) ≡ some (present s)
   closed : (i j : ℕ) → recordedAt s j ≡ true → 0 < takes i j (inside (eventsShown s) ms) → recordedAt s i ≡ true
   least : (X : ℕ → Type 0) → ((a : ℕ) → initiator ≡ some a → X a)
       → ((i j : ℕ) → X j → 0 < takes i j (inside (eventsShown s) ms) → X i) → (z : ℕ) → recordedAt s z ≡ true → X z
 
 -- From what every history keeps, with no request on its way.
-module _ (v : ℕ → ℕ) (h : History) (done : (i j : ℕ) → waits (h .now .channel i j) ≡ false)
+module _ (v : Opening) (h : History) (done : (i j : ℕ) → waits (h .now .channel i j) ≡ false)
     (flow : Flow (Due h) h) (senders : Senders h) (cuts : Cuts v h) (counts : Counts h) where
   -- The permanent zones.
   F : ℕ → Bool
@@ -149,8 +150,8 @@ module _ (v : ℕ → ℕ) (h : History) (done : (i j : ℕ) → waits (h .now .
   middle-park : plain (halves .middle) ≡ parkShown v (h .now) (movesOf h)
   unfolding F
   middle-park = park≡ _ _
-      (λ z. halves .stocks z ∙ held-end (h .now .zone z) (v z))
-      (λ i j. rw (parts .0) (channel-after i j (keep (inFirst F) (h .log)) (emptyT v) (halves .middle) refl (halves .first)))
+      (λ z. halves .stocks z ∙ held-end (h .now .zone z) (v .stocks z))
+      (λ i j. rw (parts .0) (channel-after i j (keep (inFirst F) (h .log)) (openT v) (halves .middle) refl (halves .first)))
 
   sender : (X : ℕ → Type 0) → ((i j : ℕ) → X j → 0 < takes i j (inside (eventsShown (h .now)) (movesOf h)) → X i) → (i j : ℕ)
       → IsPermanent h j → X j
@@ -162,7 +163,7 @@ module _ (v : ℕ → ℕ) (h : History) (done : (i j : ℕ) → waits (h .now .
   cut-of : CutOf v (h .now) (movesOf h) (h .initiator)
   unfolding F
   cut-of = record {
-    first = rw (parts .0) (plain-steps (keep (inFirst F) (h .log)) (emptyT v) (halves .middle) (halves .first))
+    first = rw (parts .0) (plain-steps (keep (inFirst F) (h .log)) (openT v) (halves .middle) (halves .first))
         ∙ ap some middle-park;
     second = ap (λ (p : Park). replay (outside (eventsShown (h .now)) (movesOf h)) (some p)) (sym middle-park)
         ∙ rw (parts .1) (plain-steps (keep (inSecond F) (h .log)) (halves .middle) (parkOf h) (halves .second))
@@ -173,7 +174,7 @@ module _ (v : ℕ → ℕ) (h : History) (done : (i j : ℕ) → waits (h .now .
   }
 
 -- Whatever the opening stocks v and the calls cs.
-module _ (v : ℕ → ℕ) (cs : List Call) (allowed : Allowed cs (openS v)) (complete : Complete (run cs (openS v))) where
+module _ (v : Opening) (cs : List Call) (allowed : Allowed cs (openS v)) (complete : Complete (run cs (openS v))) where
   h : History
   h = history cs (openH v)
 
@@ -225,7 +226,7 @@ module _ (v : ℕ → ℕ) (cs : List Call) (allowed : Allowed cs (openS v)) (co
   cut = record {
     first = cut-at .first;
     second = cut-at .second;
-    others = λ z e. not-shown (run cs (openS v) .zone z .checkpoint) (v z) e;
+    others = λ z e. not-shown (run cs (openS v) .zone z .checkpoint) (v .stocks z) e;
     initiator = (who-started .0, starting (who-started .0) (who-started .1));
     one-initiator = one;
     has-initiator = recorded;
@@ -237,5 +238,5 @@ module _ (v : ℕ → ℕ) (cs : List Call) (allowed : Allowed cs (openS v)) (co
   }
 
 -- Demand 3, over the rules.
-pub consistent : (v : ℕ → ℕ) (cs : List Call) → Allowed cs (openS v) → Complete (run cs (openS v)) → Cut v cs (snapshot v cs)
+pub consistent : (v : Opening) (cs : List Call) → Allowed cs (openS v) → Complete (run cs (openS v)) → Cut v cs (snapshot v cs)
 consistent v cs allowed complete = cut v cs allowed complete

@@ -1,4 +1,4 @@
--- What is inside a recording by the count of its zone's own events is what comes before the zone's checkpoint. Assumes nothing.
+-- What is inside a recording by the count of its zone's own events is what comes before the zone's checkpoint.
 use mathlib.Core.Path.{_≡_, refl, sym, _∙_, ap, subst}
 use mathlib.Core.Bool.{Bool, true, false, _&&_, _||_, not}
 use mathlib.Core.List.{List, [], _∷_, _++_, map}
@@ -8,6 +8,7 @@ use native.Mathlib.Nat.{zero-add}
 use native.Mathlib.Numerals.{add-one}
 use lib.Dec.{eqb, ltb}
 use borrow.Author.Tests.{lt-ltb, le-ltb}
+use Rattle.rules.specs.Opening.{Opening}
 use Rattle.rules.specs.Change.{on, join, cons-if}
 use Rattle.rules.specs.Sets.{nobody}
 use Rattle.rules.specs.Zone.{isMarked, saved, sent, received, checkpointAfter, requested, madePermanent}
@@ -183,5 +184,5 @@ counts-kept = record {
   at-start = λ a h _ _ q. turn-counts a nobody (beginH a h) (record { number = q .number; past = q .past; parts = q .parts });
 }
 
-pub counts-open : (v : ℕ → ℕ) → Counts (openH v)
+pub counts-open : (v : Opening) → Counts (openH v)
 counts-open v = record { number = λ z. refl; past = λ z. omega arith; parts = λ F shown f. (refl, refl) }

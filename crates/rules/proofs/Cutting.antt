@@ -1,5 +1,5 @@
 -- The log of a history, cut in two: first the events before their checkpoints of the zones of a set F, then all others. Both parts
--- can be replayed, for every F closed under dependencies. Assumes nothing.
+-- can be replayed, for every F closed under dependencies.
 use mathlib.Core.Path.{_≡_, refl, sym, _∙_, ap, subst}
 use mathlib.Core.Bool.{Bool, true, false, _&&_, _||_, not, false≢true, true≢false}
 use mathlib.Core.Logic.{_≢_}
@@ -7,6 +7,7 @@ use mathlib.Core.List.{List, [], _∷_, append-nil, map, tail}
 use Prim.Native.Nat.{ℕ, _+_, _-_, _≤_}
 use lib.Dec.{eqb}
 use borrow.Author.Tests.{eqb-true, not-true}
+use Rattle.rules.specs.Opening.{Opening}
 use Rattle.rules.specs.Change.{on, join}
 use Rattle.rules.specs.Sets.{has, nobody}
 use Rattle.rules.specs.Zone.{isMarked, saved, sent, received, checkpointAfter, requested, madePermanent, asked, carried, opened}
@@ -43,8 +44,8 @@ cars-messages (request set ∷ l) = cars-messages l
 pub plain-park : (h : History) → plain (parkOf h) ≡ present (h .now)
 plain-park h = park≡ _ _ (λ k. refl) (λ i j. cars-messages (h .now .channel i j))
 
-abbrev pub emptyT : (ℕ → ℕ) → TaggedPark
-emptyT v = record { stock = v; channel = λ i j. [] }
+abbrev pub openT : Opening → TaggedPark
+openT v = record { stock = v .stocks; channel = λ i j. [] }
 
 -- The two parts of the log.
 abbrev pub inFirst : (ℕ → Bool) → Event → Bool
@@ -66,13 +67,13 @@ abbrev pub held : Bool → Local → ℕ → ℕ
 held true z opening = stockAt (z .checkpoint) (z .stock)
 held false z opening = opening
 
-pub record Halves (v : ℕ → ℕ) (F : ℕ → Bool) (h : History) : Type 0 where
+pub record Halves (v : Opening) (F : ℕ → Bool) (h : History) : Type 0 where
   pub middle : TaggedPark
-  pub first : Steps (keep (inFirst F) (h .log)) (emptyT v) middle
+  pub first : Steps (keep (inFirst F) (h .log)) (openT v) middle
   pub second : Steps (keep (inSecond F) (h .log)) middle (parkOf h)
-  pub stocks : (z : ℕ) → middle .stock z ≡ held (F z) (h .now .zone z) (v z)
+  pub stocks : (z : ℕ) → middle .stock z ≡ held (F z) (h .now .zone z) (v .stocks z)
 
-abbrev pub Cuts : (ℕ → ℕ) → History → Type 0
+abbrev pub Cuts : Opening → History → Type 0
 Cuts v h = (F : ℕ → Bool) → Closed F h → Halves v F h
 
 -- The tagged park after each step.
@@ -121,9 +122,9 @@ park-turn b set h = tagged≡ _ _
     (messages-ask (h .now .channel i j) _))
 
 -- A step without an event keeps the cut.
-silent : (v : ℕ → ℕ) (h t : History) → t .log ≡ h .log → parkOf t ≡ parkOf h
+silent : (v : Opening) (h t : History) → t .log ≡ h .log → parkOf t ≡ parkOf h
     → ((j : ℕ) → t .now .zone j .deps ≡ h .now .zone j .deps)
-    → ((z : ℕ) (p : Bool) → held p (t .now .zone z) (v z) ≡ held p (h .now .zone z) (v z)) → Cuts v h → Cuts v t
+    → ((z : ℕ) (p : Bool) → held p (t .now .zone z) (v .stocks z) ≡ held p (h .now .zone z) (v .stocks z)) → Cuts v h → Cuts v t
 silent v h t l y d q cuts F closed =
     let r = cuts F (λ j i f e. closed j i f (ap (λ (n : ℕ). has n i) (d j) ∙ e)) in
     record {
@@ -143,12 +144,12 @@ held-requested : (p : Bool) (z : Local) (o : ℕ) → held p (requested z) o ≡
 held-requested true z o = stock-made (z .checkpoint) (saved z)
 held-requested false z o = refl
 
-turn-cuts : (v : ℕ → ℕ) (b set : ℕ) (h t : History) → t .log ≡ h .log → t .now .zone ≡ h .now .zone → parkOf t ≡ parkOf h → Cuts v h
+turn-cuts : (v : Opening) (b set : ℕ) (h t : History) → t .log ≡ h .log → t .now .zone ≡ h .now .zone → parkOf t ≡ parkOf h → Cuts v h
     → Cuts v (turnH b set t)
 turn-cuts v b set h t l z y = silent v h (turnH b set t) l (park-turn b set t ∙ y)
     (λ j. on-same (λ (k : Local). k .deps) (eqb j b) requested (t .now .zone j) refl ∙ ap (λ (f : ℕ → Local). f j .deps) z)
-    (λ k p. on-same (λ (w : Local). held p w (v k)) (eqb k b) requested (t .now .zone k) (held-requested p (t .now .zone k) (v k))
-    ∙ ap (λ (f : ℕ → Local). held p (f k) (v k)) z)
+    (λ k p. on-same (λ (w : Local). held p w (v .stocks k)) (eqb k b) requested (t .now .zone k) (held-requested p (t .now .zone k) (v .stocks k))
+    ∙ ap (λ (f : ℕ → Local). held p (f k) (v .stocks k)) z)
 
 -- An unmarked zone of F has no event in the second part.
 not-own : (F : ℕ → Bool) (h : History) (z : ℕ) → F z ≡ true → Unmarked h z → (e : Event)
@@ -177,25 +178,25 @@ apart-receive F h a b c m q fa f u (sending x y d n) k t =
 apart-receive F h a b c m q fa f u (receiving x y d n) k t = not-own F h b f u (receiving x y d n) k t
 
 -- One more event e, by which h becomes t.
-module _ (v : ℕ → ℕ) (F : ℕ → Bool) (h t : History) (e : Event) (step : Step e (parkOf h) (parkOf t))
+module _ (v : Opening) (F : ℕ → Bool) (h t : History) (e : Event) (step : Step e (parkOf h) (parkOf t))
     (logged : t .log ≡ join e (h .log))
     (r : Halves v F h) where
   -- In the first part: it moves forward past the second part.
   one-first : inFirst F e ≡ true → All (λ x. inSecond F x ≡ true → Apart x e) (h .log)
-      → ((m : TaggedPark) → Step e (r .middle) m → (z : ℕ) → m .stock z ≡ held (F z) (t .now .zone z) (v z)) → Halves v F t
+      → ((m : TaggedPark) → Step e (r .middle) m → (z : ℕ) → m .stock z ≡ held (F z) (t .now .zone z) (v .stocks z)) → Halves v F t
   one-first q apart stock =
       let w = forward (keep (inSecond F) (h .log)) e (r .middle) (parkOf h) (parkOf t)
       (all-keep (λ x. Apart x e) (inSecond F) (h .log) apart) (r .second) step in
       record {
         middle = w .0;
         first = rw (logged, keep-join (inFirst F), q)
-            (steps-join (keep (inFirst F) (h .log)) e (emptyT v) (r .middle) (w .0) (r .first) (w .1));
+            (steps-join (keep (inFirst F) (h .log)) e (openT v) (r .middle) (w .0) (r .first) (w .1));
         second = rw (logged, keep-join (inSecond F), q, append-nil (keep (inSecond F) (h .log))) (w .2);
         stocks = stock (w .0) (w .1);
       }
 
   -- In the second part: it joins the end.
-  one-second : inFirst F e ≡ false → ((z : ℕ) → held (F z) (t .now .zone z) (v z) ≡ held (F z) (h .now .zone z) (v z))
+  one-second : inFirst F e ≡ false → ((z : ℕ) → held (F z) (t .now .zone z) (v .stocks z) ≡ held (F z) (h .now .zone z) (v .stocks z))
       → Halves v F t
   one-second q stock = record {
     middle = r .middle;
@@ -249,7 +250,7 @@ held-received : (p : Bool) (a c : ℕ) (flag : Bool) (z : Local) (o : ℕ) → p
 held-received true a c flag z o e = stock-received (z .checkpoint) (saved z) flag c e
 held-received false a c flag z o e = refl
 
-send-cuts : (v : ℕ → ℕ) (a b c : ℕ) (h : History) → c ≤ h .now .zone a .stock → PreOnly h → Cuts v h → Cuts v (sendH a b c h)
+send-cuts : (v : Opening) (a b c : ℕ) (h : History) → c ≤ h .now .zone a .stock → PreOnly h → Cuts v h → Cuts v (sendH a b c h)
 send-cuts v a b c h le pre cuts F closed = go (inFirst F e) refl
   where
     m : Bool
@@ -275,13 +276,13 @@ send-cuts v a b c h le pre cuts F closed = go (inFirst F e) refl
         (all-map _ _ (h .log) (λ x k w. apart-send F h a b c m (and-left (F a) (not m) q)
         (not-true m (and-right (F a) (not m) q)) x k w) pre)
         (λ y st z. ap (λ (Y : TaggedPark). Y .stock z) (st .1) ∙ ap (on (eqb z a) (λ n. n - c)) (r .stocks z)
-        ∙ sym (on-map-at (λ (w : Local). held (F z) w (v z)) (eqb z a) (sent c) (λ n. n - c) (h .now .zone z)
-        (λ w. held-send (F z) c (h .now .zone z) (v z) (same z true w q))))
+        ∙ sym (on-map-at (λ (w : Local). held (F z) w (v .stocks z)) (eqb z a) (sent c) (λ n. n - c) (h .now .zone z)
+        (λ w. held-send (F z) c (h .now .zone z) (v .stocks z) (same z true w q))))
     go false q = one-second v F h t e step refl r q
-        (λ z. on-same-at (λ (w : Local). held (F z) w (v z)) (eqb z a) (sent c) (h .now .zone z)
-        (λ w. held-sent (F z) c (h .now .zone z) (v z) (same z false w q)))
+        (λ z. on-same-at (λ (w : Local). held (F z) w (v .stocks z)) (eqb z a) (sent c) (h .now .zone z)
+        (λ w. held-sent (F z) c (h .now .zone z) (v .stocks z) (same z false w q)))
 
-receive-cuts : (v : ℕ → ℕ) (a b c : ℕ) (flag : Bool) (l : List Item) (h : History) → h .now .channel a b ≡ message c flag ∷ l
+receive-cuts : (v : Opening) (a b c : ℕ) (flag : Bool) (l : List Item) (h : History) → h .now .channel a b ≡ message c flag ∷ l
     → PreOnly h → Cuts v h → Cuts v (receiveH a b c flag h)
 receive-cuts v a b c flag l h at pre cuts F closed = go (inFirst F e) refl
   where
@@ -327,13 +328,13 @@ receive-cuts v a b c flag l h at pre cuts F closed = go (inFirst F e) refl
         (all-map _ _ (h .log) (λ x k w. apart-receive F h a b c n (not-true n nn) (closed b a fb (depended nn)) fb
         (or-off-left _ flag (not-true n nn)) x k w) pre)
         (λ y st z. ap (λ (Y : TaggedPark). Y .stock z) (st .4) ∙ ap (on (eqb z b) (λ k. k + c)) (r .stocks z)
-        ∙ sym (on-map-at (λ (w : Local). held (F z) w (v z)) (eqb z b) (received a c flag) (λ k. k + c) (h .now .zone z)
-        (λ w. held-receive (F z) a c flag (h .now .zone z) (v z) (same z true w q))))
+        ∙ sym (on-map-at (λ (w : Local). held (F z) w (v .stocks z)) (eqb z b) (received a c flag) (λ k. k + c) (h .now .zone z)
+        (λ w. held-receive (F z) a c flag (h .now .zone z) (v .stocks z) (same z true w q))))
     go false q = one-second v F h t e step refl r q
-        (λ z. on-same-at (λ (w : Local). held (F z) w (v z)) (eqb z b) (received a c flag) (h .now .zone z)
-        (λ w. held-received (F z) a c flag (h .now .zone z) (v z) (same z false w q)))
+        (λ z. on-same-at (λ (w : Local). held (F z) w (v .stocks z)) (eqb z b) (received a c flag) (h .now .zone z)
+        (λ w. held-received (F z) a c flag (h .now .zone z) (v .stocks z) (same z false w q)))
 
-pub cuts-kept : (v : ℕ → ℕ) → Kept (λ h. PreOnly h × Cuts v h)
+pub cuts-kept : (v : Opening) → Kept (λ h. PreOnly h × Cuts v h)
 cuts-kept v = record {
   at-send = λ a b c h le q. (pre-kept .at-send a b c h le (q .0), send-cuts v a b c h le (q .0) (q .1));
   at-receive = λ a b c flag l h e q. (pre-kept .at-receive a b c flag l h e (q .0), receive-cuts v a b c flag l h e (q .0) (q .1));
@@ -348,9 +349,9 @@ cuts-kept v = record {
   at-start = λ a h e u q. (pre-kept .at-start a h e u (q .0), turn-cuts v a nobody h (beginH a h) refl refl refl (q .1));
 }
 
-pub cuts-open : (v : ℕ → ℕ) → PreOnly (openH v) × Cuts v (openH v)
-cuts-open v = (tt, λ F closed. record { middle = emptyT v; first = refl; second = refl; stocks = λ z. go (F z) z })
+pub cuts-open : (v : Opening) → PreOnly (openH v) × Cuts v (openH v)
+cuts-open v = (tt, λ F closed. record { middle = openT v; first = refl; second = refl; stocks = λ z. go (F z) z })
   where
-    go : (p : Bool) (z : ℕ) → v z ≡ held p (opened z (v z)) (v z)
+    go : (p : Bool) (z : ℕ) → v .stocks z ≡ held p (opened z (v .stocks z)) (v .stocks z)
     go true z = refl
     go false z = refl

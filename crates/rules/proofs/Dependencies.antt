@@ -1,11 +1,12 @@
 -- An unmarked zone has only events that count as before its checkpoint, and a dependency set is the zone itself and the senders of
--- its receipts before its checkpoint. Assumes nothing.
+-- its receipts before its checkpoint.
 use mathlib.Core.Path.{_≡_, refl, sym, _∙_, ap}
 use mathlib.Core.Bool.{Bool, true, false, _&&_, _||_, not, and-true, and-false, or-false, or-assoc, true≢false}
 use mathlib.Core.List.{List, [], _∷_}
 use Prim.Native.Nat.{ℕ}
 use lib.Dec.{eqb}
 use borrow.Author.Tests.{eqb-true}
+use Rattle.rules.specs.Opening.{Opening}
 use Rattle.rules.specs.Change.{on, join}
 use Rattle.rules.specs.Sets.{has, nobody}
 use Rattle.rules.specs.Zone.{isMarked, sent, received, requested}
@@ -93,5 +94,5 @@ senders-kept = record {
   at-start = λ a h _ _ s j i. on-same (λ (z : Local). has (z .deps) i) (eqb j a) requested (h .now .zone j) refl ∙ s j i;
 }
 
-pub senders-open : (v : ℕ → ℕ) → Senders (openH v)
+pub senders-open : (v : Opening) → Senders (openH v)
 senders-open v j i = has-only j i ∙ sym (or-false (eqb i j))

@@ -1,4 +1,4 @@
--- A fact about every number below a bound, by one test that antt computes. Assumes nothing.
+-- A fact about every number below a bound, by one test that antt computes.
 use mathlib.Core.Path.{_≡_, refl, sym, subst}
 use mathlib.Core.Bool.{Bool, true, false, _&&_, Bool·beq}
 use mathlib.Core.Logic.{⊎-elim}

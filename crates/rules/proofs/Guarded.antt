@@ -1,5 +1,4 @@
--- Laws of a change that is made only where a test holds: what it keeps, what it commutes with, what carries it over. Assumes
--- nothing.
+-- Laws of a change that is made only where a test holds: what it keeps, what it commutes with, what carries it over.
 use mathlib.Core.Path.{_≡_, refl}
 use mathlib.Core.Bool.{Bool, true, false, _&&_}
 use Rattle.rules.specs.Change.{on}

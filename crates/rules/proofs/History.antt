@@ -1,11 +1,12 @@
 -- A history: the site, with what happened on the way to it. Its site is that of the run, and its events without their tags are the
--- moves that the park is fed. Assumes nothing.
+-- moves that the park is fed.
 use mathlib.Core.Path.{_≡_, refl, sym, _∙_, ap}
 use mathlib.Core.Bool.{Bool, true, false, _&&_, _||_}
 use mathlib.Core.List.{List, [], _∷_, _++_, append-assoc, append-nil, map}
 use mathlib.Core.Option.{Option, none, some}
 use Prim.Native.Nat.{ℕ}
 use lib.Dec.{eqb}
+use Rattle.rules.specs.Opening.{Opening}
 use Rattle.rules.specs.Change.{join}
 use Rattle.rules.specs.Sets.{has}
 use Rattle.rules.specs.Zone.{isMarked, isPermanent}
@@ -23,7 +24,7 @@ pub record History : Type 0 where
   pub initiator : Option ℕ
   pub log : List Event
 
-abbrev pub openH : (ℕ → ℕ) → History
+abbrev pub openH : Opening → History
 openH v = record { now = openS v; initiator = none; log = [] }
 
 -- What is asked of a zone at the end of a history.
@@ -118,7 +119,7 @@ moves-run (c ∷ cs) h =
     moves-run cs (stepH c h) ∙ ap (λ (ms : List Move). ms ++ moves cs (stepS c (h .now))) (moves-after c (h .now) (h .log))
     ∙ append-assoc (movesOf h) (moveOf c (h .now)) (moves cs (stepS c (h .now)))
 
-pub moves-open : (v : ℕ → ℕ) (cs : List Call) → movesOf (history cs (openH v)) ≡ moves cs (openS v)
+pub moves-open : (v : Opening) (cs : List Call) → movesOf (history cs (openH v)) ≡ moves cs (openS v)
 moves-open v cs = moves-run cs (openH v)
 
 -- Calls in two parts.

@@ -1,5 +1,5 @@
 -- What each step of a history does or keeps, every list of allowed calls does or keeps. A start is a request from nobody, since
--- before the first start no zone is marked, and there is no second. Assumes nothing.
+-- before the first start no zone is marked, and there is no second.
 use mathlib.Core.Path.{_≡_, refl, sym, _∙_, ap, subst}
 use mathlib.Core.Bool.{Bool, true, false, _&&_, _||_, not, true≢false}
 use mathlib.Core.List.{List, [], _∷_, tail}
@@ -7,6 +7,7 @@ use mathlib.Core.Option.{Option, none, some}
 use Prim.Native.Nat.{ℕ, _≤_}
 use lib.Dec.{eqb}
 use borrow.Author.Tests.{eqb-true}
+use Rattle.rules.specs.Opening.{Opening}
 use Rattle.rules.specs.Change.{on, join}
 use Rattle.rules.specs.Sets.{nobody}
 use Rattle.rules.specs.Zone.{isMarked, isPermanent, sent, received, started, requested}
@@ -99,7 +100,7 @@ fresh-kept = record {
     turned b set h x = on-keeps (λ (k : Local). isPermanent (k .checkpoint) ≡ true) (eqb x b) requested (h .now .zone x)
         (λ q. permanent-made (h .now .zone x .checkpoint) _)
 
-pub fresh-open : (v : ℕ → ℕ) → Fresh (openH v)
+pub fresh-open : (v : Opening) → Fresh (openH v)
 fresh-open v = record { unmarked = λ e z. refl; calm = λ e i j. tt; begun = λ a e. absurd (some≢none (sym e)) }
 
 -- A start that is allowed is the first.

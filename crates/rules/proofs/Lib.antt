@@ -17,3 +17,5 @@ pub mod Conservation
 pub mod Finite
 pub mod Members
 pub mod QuestionLaws
+pub mod AskLaws
+pub mod SiteLaws

@@ -1,4 +1,4 @@
--- Properties of every element of a list, the elements that pass a test, and images, when an element joins the end. Assumes nothing.
+-- Properties of every element of a list, the elements that pass a test, and images, when an element joins the end.
 use mathlib.Core.Path.{_≡_, refl, ap}
 use mathlib.Core.Bool.{Bool, true, false}
 use mathlib.Core.List.{List, [], _∷_, _++_, map, tail}

@@ -1,4 +1,4 @@
--- The members of a set of zones: in what order they stand, how many they are, and which sets a site of n zones has. Assumes nothing.
+-- The members of a set of zones: in what order they stand, how many they are, and which sets a site of n zones has.
 use mathlib.Core.Path.{_≡_, refl, sym, ap, ap₂, _∙_}
 use mathlib.Core.Bool.{Bool, true, false, _&&_, not, cond, Bool·beq, and-true, and-false}
 use mathlib.Core.List.{List, [], _∷_, _++_}

@@ -1,4 +1,4 @@
--- What a yes to a question says of the numbers. Assumes nothing.
+-- What a yes to a question says of the numbers.
 use mathlib.Core.Path.{_≡_}
 use mathlib.Core.Bool.{true}
 use Prim.Native.Nat.{ℕ, _≤_}

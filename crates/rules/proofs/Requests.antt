@@ -1,5 +1,5 @@
 -- Requests: whoever a permanent zone depends on, or a request names, is permanent or has a request coming; and every permanent zone
--- is reached from the initiator by dependencies. Assumes nothing.
+-- is reached from the initiator by dependencies.
 use mathlib.Core.Path.{_≡_, refl, sym, _∙_, ap, subst}
 use mathlib.Core.Bool.{Bool, true, false, _&&_, false≢true, true≢false}
 use mathlib.Core.Logic.{_⊎_, inl, inr}
@@ -8,6 +8,7 @@ use mathlib.Core.Option.{none, some}
 use Prim.Native.Nat.{ℕ}
 use lib.Dec.{eqb}
 use borrow.Author.Tests.{eqb-true}
+use Rattle.rules.specs.Opening.{Opening}
 use Rattle.rules.specs.Change.{on, join}
 use Rattle.rules.specs.Sets.{has, nobody}
 use Rattle.rules.specs.Zone.{isMarked, isPermanent, depsAfter, sent, received, requested, asked, carried}
@@ -301,7 +302,7 @@ flow-kept = record {
         → Fair (Due h) h a b (request set)
     first a b set l h e q = (subst (All (Fair (Due h) h a b)) e q) .0
 
-pub flow-open : (v : ℕ → ℕ) → Flow (Due (openH v)) (openH v)
+pub flow-open : (v : Opening) → Flow (Due (openH v)) (openH v)
 flow-open v = record {
   fair = λ i j. tt;
   wanted = λ j i p _. absurd (false≢true p);

@@ -1,5 +1,5 @@
 -- Membership in the sets that the rules make: a union, a difference, the set of one zone, the set of nobody. No bound is asked of
--- any number. Assumes nothing.
+-- any number.
 use mathlib.Core.Path.{_≡_, refl, sym, _∙_, ap, subst}
 use mathlib.Core.Bool.{Bool, true, false, _&&_, _||_, not}
 use mathlib.Core.Logic.{_⊎_, inl, inr}

@@ -1,11 +1,12 @@
 -- The events that a recording shows of a zone are its own events before the call that gave it its checkpoint; for the initiator
--- that call is the start. Assumes nothing.
+-- that call is the start.
 use mathlib.Core.Path.{_≡_, refl, sym, _∙_, ap, subst}
 use mathlib.Core.Bool.{Bool, true, false, false≢true, true≢false}
 use mathlib.Core.List.{List, [], _∷_, _++_}
 use mathlib.Core.Option.{none, some}
 use Prim.Native.Nat.{ℕ}
 use lib.Dec.{eqb}
+use Rattle.rules.specs.Opening.{Opening}
 use Rattle.rules.specs.Change.{on}
 use Rattle.rules.specs.Sets.{nobody}
 use Rattle.rules.specs.Zone.{isMarked, isPermanent, saved, sent, received, checkpointAfter, started, requested, madePermanent}
@@ -74,7 +75,7 @@ lasting (c ∷ cs) h f al z e =
     lasting cs (stepH c h) (fresh-call c h f (al .0)) (al .1) z (q .0) ∙ q .1
 
 -- So in the end it has the number of events before the call that made it.
-marked-events : (v : ℕ → ℕ) (before : List Call) (c : Call) (after : List Call) (z : ℕ) → Allowed (before ++ (c ∷ after)) (openS v)
+marked-events : (v : Opening) (before : List Call) (c : Call) (after : List Call) (z : ℕ) → Allowed (before ++ (c ∷ after)) (openS v)
     → isMarked (run before (openS v) .zone z .checkpoint) ≡ false
     → isMarked (stepS c (run before (openS v)) .zone z .checkpoint) ≡ true
     → eventsAt (run (before ++ (c ∷ after)) (openS v) .zone z .checkpoint) ≡ own z (moves before (openS v))
@@ -99,7 +100,7 @@ events-permanent None e = refl
 events-permanent (Mutable s) e = absurd (false≢true e)
 events-permanent (Permanent s) e = refl
 
-pub zone-events : (v : ℕ → ℕ) (cs : List Call) → Allowed cs (openS v) → (z : ℕ)
+pub zone-events : (v : Opening) (cs : List Call) → Allowed cs (openS v) → (z : ℕ)
     → isPermanent (run cs (openS v) .zone z .checkpoint) ≡ true
     → (m : Marking v cs z) → eventsOf (run cs (openS v) .zone z .checkpoint) ≡ own z (moves (m .before) (openS v))
 zone-events v cs al z p m =
@@ -128,7 +129,7 @@ when-marked (c ∷ cs) s z e f = go (isMarked (stepS c s .zone z .checkpoint)) r
     go true w ih = ([], c, cs, refl, e, w)
     go false w ih = let r = ih w in (c ∷ r .0, r .1, r .2, ap (λ l. c ∷ l) (r .3), r .4, r .5)
 
-pub marked-once : (v : ℕ → ℕ) (cs : List Call) (z : ℕ) → isPermanent (run cs (openS v) .zone z .checkpoint) ≡ true → Marking v cs z
+pub marked-once : (v : Opening) (cs : List Call) (z : ℕ) → isPermanent (run cs (openS v) .zone z .checkpoint) ≡ true → Marking v cs z
 unfolding Marked
 marked-once v cs z p =
     let r = when-marked cs (openS v) z refl (permanent-marked (run cs (openS v) .zone z .checkpoint) p) in
@@ -144,7 +145,7 @@ initiator-kept a = record {
   at-start = λ x h e _ q. absurd (some≢none (sym q ∙ e));
 }
 
-pub starting-initiator : (v : ℕ → ℕ) (cs : List Call) → Allowed cs (openS v) → (a : ℕ) → Starting cs a
+pub starting-initiator : (v : Opening) (cs : List Call) → Allowed cs (openS v) → (a : ℕ) → Starting cs a
     → (history cs (openH v)) .initiator ≡ some a
 starting-initiator v cs al a s =
     let (al₀, al₁) = allowed-append (s .before) (start a ∷ s .after) (openH v)
@@ -173,7 +174,7 @@ initiator-starting (start x ∷ cs) h f al a e q =
     record { before = []; after = cs; calls = ap (λ k. start k ∷ cs) i }
 
 -- The start gives the initiator its checkpoint.
-start-marking : (v : ℕ → ℕ) (cs : List Call) → Allowed cs (openS v) → (a : ℕ) (s : Starting cs a) → Marking v cs a
+start-marking : (v : Opening) (cs : List Call) → Allowed cs (openS v) → (a : ℕ) (s : Starting cs a) → Marking v cs a
 start-marking v cs al a s =
     let (al₀, al₁) = allowed-append (s .before) (start a ∷ s .after) (openH v)
     (subst (λ (l : List Call). Allowed l (openS v)) (s .calls) al) in
@@ -190,7 +191,7 @@ start-marking v cs al a s =
           (on-true (eqb a a) started (run (s .before) (openS v) .zone a) (eqb-refl a));
     }
 
-pub initiator-events : (v : ℕ → ℕ) (cs : List Call) → Allowed cs (openS v) → (a : ℕ)
+pub initiator-events : (v : Opening) (cs : List Call) → Allowed cs (openS v) → (a : ℕ)
     → isPermanent (run cs (openS v) .zone a .checkpoint) ≡ true
     → (s : Starting cs a) → eventsOf (run cs (openS v) .zone a .checkpoint) ≡ own a (moves (s .before) (openS v))
 unfolding start-marking

@@ -1,5 +1,5 @@
 -- The park whose messages carry a tag, whether they were sent before or after their sender's checkpoint: there an event that counts
--- as before may be moved forward past the events that count as after. Assumes nothing.
+-- as before may be moved forward past the events that count as after.
 use mathlib.Core.Path.{_≡_, refl, sym, _∙_, ap, subst}
 use mathlib.Core.Bool.{Bool, true, false, _&&_, true≢false}
 use mathlib.Core.Logic.{_≢_}

@@ -1,4 +1,4 @@
--- What tests on zone numbers say when they are joined by "and" and "or". Assumes nothing.
+-- What tests on zone numbers say when they are joined by "and" and "or".
 use mathlib.Core.Path.{_≡_, refl, sym, _∙_}
 use mathlib.Core.Bool.{Bool, true, false, _&&_, _||_, and-false, true≢false, false≢true, not}
 use mathlib.Core.Logic.{_≢_, _⊎_, inl, inr}

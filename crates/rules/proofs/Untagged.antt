@@ -1,4 +1,4 @@
--- The tagged park without its tags is the plain park, and a channel holds what was handed over and not taken. Assumes nothing.
+-- The tagged park without its tags is the plain park, and a channel holds what was handed over and not taken.
 use mathlib.Core.Path.{_≡_, refl, sym, _∙_, ap}
 use mathlib.Core.Bool.{Bool, true, false, _&&_}
 use mathlib.Core.List.{List, [], _∷_, _++_, append-nil, tail, map}

@@ -5,9 +5,10 @@ use mathlib.Core.List.{List, [], _∷_, _++_}
 use mathlib.Core.Option.{some}
 use Prim.Native.Nat.{ℕ, _≤_, _<_}
 use lib.ListN.{drop}
+use Rattle.rules.specs.Opening.{Opening}
 use Rattle.rules.specs.Zone.{isMarked, isPermanent}
 use Rattle.rules.specs.Site.{Item, message, request, Site, Call, send, receive, start, stepS, openS, waits}
-use Rattle.rules.specs.Park.{Park, Move, hand, take, emptyPark, replay, own, inside, outside, hands, takes}
+use Rattle.rules.specs.Park.{Park, Move, hand, take, openPark, replay, own, inside, outside, hands, takes}
 use Rattle.rules.specs.declared.Checkpoint.{Checkpoint}
 use Rattle.rules.specs.declared.Checkpoint.the-variants.{None, Mutable, Permanent}
 
@@ -77,28 +78,31 @@ stockOf (Permanent s) opening = s .stock
 abbrev pub channelOf : List Move → ℕ → ℕ → List ℕ
 channelOf ms i j = drop (takes i j ms) (hands i j ms)
 
--- The recording after the calls cs from the opening stocks v.
-abbrev pub snapshot : (ℕ → ℕ) → List Call → Snapshot
-snapshot v cs =
-    let s = run cs (openS v) in
+-- The recording that a site shows after the calls cs from the opening o.
+abbrev pub shownBy : Opening → List Call → Site → Snapshot
+shownBy o cs s =
     let events : ℕ → ℕ = λ k. eventsOf (s .zone k .checkpoint) in
     record {
       recorded = λ k. isPermanent (s .zone k .checkpoint);
       events = events;
       park = record {
-        stock = λ k. stockOf (s .zone k .checkpoint) (v k);
-        channel = channelOf (inside events (moves cs (openS v)));
+        stock = λ k. stockOf (s .zone k .checkpoint) (o .stocks k);
+        channel = channelOf (inside events (moves cs (openS o)));
       };
     }
 
+-- The recording after the calls cs from the opening o, by the rules.
+abbrev pub snapshot : Opening → List Call → Snapshot
+snapshot o cs = shownBy o cs (run cs (openS o))
+
 -- Zone z takes its mark by a call: it has none before the call, and one after it.
-pub record Marking (v : ℕ → ℕ) (cs : List Call) (z : ℕ) : Type 0 where
+pub record Marking (o : Opening) (cs : List Call) (z : ℕ) : Type 0 where
   pub before : List Call
   pub call : Call
   pub after : List Call
   pub calls : cs ≡ before ++ (call ∷ after)
-  pub unmarked : isMarked (run before (openS v) .zone z .checkpoint) ≡ false
-  pub marked : isMarked (stepS call (run before (openS v)) .zone z .checkpoint) ≡ true
+  pub unmarked : isMarked (run before (openS o) .zone z .checkpoint) ≡ false
+  pub marked : isMarked (stepS call (run before (openS o)) .zone z .checkpoint) ≡ true
 
 -- Zone a starts by a call: "The starter is the zone of the accepted start."
 pub record Starting (cs : List Call) (a : ℕ) : Type 0 where
@@ -106,24 +110,24 @@ pub record Starting (cs : List Call) (a : ℕ) : Type 0 where
   pub after : List Call
   pub calls : cs ≡ before ++ (start a ∷ after)
 
--- Demand 3 of the accepted calls cs from the opening stocks v, and of the recording r.
-pub record Cut (v : ℕ → ℕ) (cs : List Call) (r : Snapshot) : Type 1 where
+-- Demand 3 of the accepted calls cs from the opening o, and of the recording r.
+pub record Cut (o : Opening) (cs : List Call) (r : Snapshot) : Type 1 where
   -- "The inside ones are replayed from the opening"; "After the first part the park's stocks and lines equal the recorded ones."
-  pub first : replay (inside (r .events) (moves cs (openS v))) (some (emptyPark v)) ≡ some (r .park)
+  pub first : replay (inside (r .events) (moves cs (openS o))) (some (openPark o)) ≡ some (r .park)
   -- "then all the others from where that ended"; "After the second they equal those of the run after the list".
-  pub second : replay (outside (r .events) (moves cs (openS v))) (some (r .park)) ≡ some (present (run cs (openS v)))
+  pub second : replay (outside (r .events) (moves cs (openS o))) (some (r .park)) ≡ some (present (run cs (openS o)))
   -- "Any other zone, a provisional one included, has its opening stock and 0 events."
-  pub others : (z : ℕ) → r .recorded z ≡ false → (r .events z ≡ 0) × (r .park .stock z ≡ v z)
+  pub others : (z : ℕ) → r .recorded z ≡ false → (r .events z ≡ 0) × (r .park .stock z ≡ o .stocks z)
   -- "The recorded zones are the smallest set that has the starter and, with each zone, every sender of its inside receipts."
   pub initiator : (a : ℕ) × Starting cs a
   pub one-initiator : (a b : ℕ) → Starting cs a → Starting cs b → a ≡ b
   pub has-initiator : (a : ℕ) → Starting cs a → r .recorded a ≡ true
-  pub closed : (i j : ℕ) → r .recorded j ≡ true → 0 < takes i j (inside (r .events) (moves cs (openS v))) → r .recorded i ≡ true
+  pub closed : (i j : ℕ) → r .recorded j ≡ true → 0 < takes i j (inside (r .events) (moves cs (openS o))) → r .recorded i ≡ true
   pub least : (X : ℕ → Type 0) → ((a : ℕ) → Starting cs a → X a)
-      → ((i j : ℕ) → X j → 0 < takes i j (inside (r .events) (moves cs (openS v))) → X i)
+      → ((i j : ℕ) → X j → 0 < takes i j (inside (r .events) (moves cs (openS o))) → X i)
       → (z : ℕ) → r .recorded z ≡ true → X z
   -- "The events shown for the starter are the number of its own events before the accepted start".
-  pub initiator-events : (a : ℕ) (s : Starting cs a) → r .events a ≡ own a (moves (s .before) (openS v))
+  pub initiator-events : (a : ℕ) (s : Starting cs a) → r .events a ≡ own a (moves (s .before) (openS o))
   -- "those for any other recorded zone the number before its mark".
-  pub marking : (z : ℕ) → r .recorded z ≡ true → Marking v cs z
-  pub zone-events : (z : ℕ) → r .recorded z ≡ true → (m : Marking v cs z) → r .events z ≡ own z (moves (m .before) (openS v))
+  pub marking : (z : ℕ) → r .recorded z ≡ true → Marking o cs z
+  pub zone-events : (z : ℕ) → r .recorded z ≡ true → (m : Marking o cs z) → r .events z ≡ own z (moves (m .before) (openS o))

@@ -4,6 +4,7 @@ pub mod Sets
 pub mod Below
 pub mod Change
 pub mod Zone
+pub mod Opening
 pub mod Site
 pub mod Park
 pub mod Cut

@@ -5,6 +5,7 @@ use mathlib.Core.List.{List, [], _∷_, tail}
 use mathlib.Core.Option.{Option, none, some}
 use Prim.Native.Nat.{ℕ, suc, _+_, _-_, _<_}
 use lib.Dec.{eqb, leb, ltb}
+use Rattle.rules.specs.Opening.{Opening}
 use Rattle.rules.specs.Below.{sum, sumBelow}
 use Rattle.rules.specs.Change.{on, join, cons-if}
 
@@ -18,8 +19,8 @@ pub data Move : Type 0 where
   take : (from to : ℕ) → Move
 
 -- "It starts with the opening stocks and empty lines."
-abbrev pub emptyPark : (ℕ → ℕ) → Park
-emptyPark stocks = record { stock = stocks; channel = λ i j. [] }
+abbrev pub openPark : Opening → Park
+openPark o = record { stock = o .stocks; channel = λ i j. [] }
 
 -- "that stock falls by c and c joins the end of line A to B".
 abbrev pub handed : ℕ → ℕ → ℕ → Park → Park

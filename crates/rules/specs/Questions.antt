@@ -1,4 +1,6 @@
 -- "A call goes through its list from left to right; the first "no" gives the number. Success is 0."
+use mathlib.Core.Path.{_≡_}
+use mathlib.Core.Logic.{_⊎_}
 use mathlib.Core.Bool.{Bool, cond, _&&_}
 use mathlib.Core.List.{List, [], _∷_}
 use Prim.Native.Nat.{ℕ, _-_}
@@ -22,6 +24,11 @@ refusal (q ∷ qs) = cond (q .yes) (refusal qs) (q .number)
 abbrev pub ask : {A : Type 0} → List Question → (ℕ → A) → A → A
 ask [] refused accepted = accepted
 ask (q ∷ qs) refused accepted = cond (q .yes) (ask qs refused accepted) (refused (q .number))
+
+-- The number is one of the list.
+abbrev pub Among : ℕ → List ℕ → Type 0
+Among n [] = ⊥
+Among n (x ∷ xs) = (n ≡ x) ⊎ Among n xs
 
 -- The index of a zone: its number less one.
 abbrev pub index : ℕ → ℕ

@@ -4,6 +4,7 @@ use mathlib.Core.Bool.{Bool, true, false, _&&_, not}
 use mathlib.Core.List.{List, [], _∷_, tail}
 use Prim.Native.Nat.{ℕ}
 use lib.Dec.{eqb}
+use Rattle.rules.specs.Opening.{Opening}
 use Rattle.rules.specs.Change.{on, join}
 use Rattle.rules.specs.Sets.{has, nobody}
 use Rattle.rules.specs.Zone.{isMarked, isPermanent, opened, sent, received, started, requested, asked, carried}
@@ -74,9 +75,9 @@ stepS (send a b cars) s = sendS a b cars s
 stepS (receive a b) s = takeS a b (s .channel a b) s
 stepS (start a) s = startS a s
 
--- The site of an opening with these stocks.
-abbrev pub openS : (ℕ → ℕ) → Site
-openS stocks = record { zone = λ k. opened k (stocks k); channel = λ i j. [] }
+-- The site of an opening.
+abbrev pub openS : Opening → Site
+openS o = record { zone = λ k. opened k (o .stocks k); channel = λ i j. [] }
 
 -- Does a channel hold a request?
 abbrev pub waits : List Item → Bool

@@ -1,4 +1,4 @@
--- `local::bit` meets its contract. Assumes nothing.
+-- `local::bit` meets its contract.
 use mathlib.Core.Path.{_∙_}
 use Prim.Native.Nat.{_^_}
 use native.Mathlib.Nat.{one-mul}

@@ -1,4 +1,4 @@
--- `local::checkpoint_after` meets its contract. Assumes nothing.
+-- `local::checkpoint_after` meets its contract.
 use borrow.Author.Needs.{needs}
 use Rattle.local.proofs.checkpoint_after.Statement.{statement}
 use Rattle.local.proofs.checkpoint_after.Tie as tie

@@ -1,4 +1,4 @@
--- `local::deps_after` meets its contract. Assumes nothing.
+-- `local::deps_after` meets its contract.
 use borrow.Author.Needs.{needs}
 use Rattle.local.proofs.deps_after.Statement.{statement}
 use Rattle.local.proofs.deps_after.Tie as tie

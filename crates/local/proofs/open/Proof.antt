@@ -1,4 +1,4 @@
--- `local::open` meets its contract. Assumes nothing.
+-- `local::open` meets its contract.
 use borrow.Author.Needs.{needs}
 use Rattle.local.proofs.open.Statement.{statement}
 use Rattle.local.proofs.open.Tie as tie

@@ -1,4 +1,4 @@
--- `local::receive` meets its contract. Assumes nothing.
+-- `local::receive` meets its contract.
 use borrow.Author.Needs.{needs}
 use Rattle.local.proofs.receive.Statement.{statement}
 use Rattle.local.proofs.receive.Tie as tie

@@ -1,4 +1,4 @@
--- `local::request` meets its contract. Assumes nothing.
+-- `local::request` meets its contract.
 use Rattle.local.specs.Asked.{requestedBy, turned}
 use borrow.Author.Needs.{needs}
 use Rattle.local.proofs.request.Statement.{statement}

@@ -1,4 +1,4 @@
--- `local::start` meets its contract. Assumes nothing.
+-- `local::start` meets its contract.
 use Rattle.local.specs.Asked.{startedBy, turned}
 use borrow.Author.Needs.{needs}
 use Rattle.local.proofs.start.Statement.{statement}

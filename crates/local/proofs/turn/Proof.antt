@@ -1,4 +1,4 @@
--- `local::turn` meets its contract. Assumes nothing.
+-- `local::turn` meets its contract.
 use borrow.Author.Tests.{eq-eqb, ne-eqb}
 use Rattle.local.specs.Asked.{turned}
 use borrow.Author.Needs.{needs}

@@ -1,4 +1,4 @@
--- `questions::is_count` meets its contract. Assumes nothing.
+-- `questions::is_count` meets its contract.
 use mathlib.Core.Path.{refl}
 use Rattle.rules.specs.Questions.{isCount}
 use Rattle.questions.proofs.is_count.Statement.{statement}

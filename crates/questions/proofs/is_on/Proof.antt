@@ -1,4 +1,4 @@
--- `questions::is_on` meets its contract. Assumes nothing.
+-- `questions::is_on` meets its contract.
 use mathlib.Core.Path.{refl}
 use Rattle.rules.specs.Questions.{isOn}
 use Rattle.questions.proofs.is_on.Statement.{statement}

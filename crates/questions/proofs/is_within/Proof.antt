@@ -1,4 +1,4 @@
--- `questions::is_within` meets its contract. Assumes nothing.
+-- `questions::is_within` meets its contract.
 use mathlib.Core.Path.{sym}
 use native.Mathlib.Nat.{lt-of-lt-of-le}
 use borrow.Author.Tests.{lt-ltb}

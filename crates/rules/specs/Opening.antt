@@ -1,0 +1,6 @@
+-- What an opening fixes, as far as the rules speak of it.
+use Prim.Native.Nat.{ℕ}
+
+-- The opening stock of each zone, by index.
+pub record Opening : Type 0 where
+  pub stocks : ℕ → ℕ
