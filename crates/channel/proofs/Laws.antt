@@ -1,5 +1,4 @@
--- What the loops of this crate need: places moved down one after another, and the members of a set taken one after another. Assumes
--- nothing.
+-- What the loops of this crate need: places moved down one after another, and the members of a set taken one after another.
 use mathlib.Core.Path.{_≡_, refl, ap, _∙_}
 use mathlib.Core.List.{List, [], _∷_}
 use Prim.Native.Nat.{ℕ, zero, suc, _+_, _-_, _<_}

@@ -1,4 +1,4 @@
--- The 16 places of one channel in the list of all: what a write and a move down there do to them and to the others. Assumes nothing.
+-- The 16 places of one channel in the list of all: what a write and a move down there do to them and to the others.
 use mathlib.Core.Path.{_≡_, refl, sym, ap, _∙_}
 use mathlib.Core.List.{List, [], _∷_, _++_, tail}
 use mathlib.Core.Logic.{_≢_, _⊎_, inl, inr, ⊎-elim}

@@ -3,9 +3,10 @@
 use mathlib.Core.Bool.{Bool, true, cond, _||_, _&&_, not}
 use mathlib.Core.List.{List, [], _∷_, map}
 use mathlib.Core.Path.{_≡_}
-use Prim.Native.Nat.{ℕ, zero, suc, _+_, _-_, _*_, _<_, _≤_}
-use lib.Dec.{ltb}
+use Prim.Native.Nat.{ℕ, zero, suc, _+_, _-_, _*_, _/_, _%_, _<_, _≤_}
+use lib.Dec.{ltb, eqb}
 use lib.ListN.{length, getD, set, take, drop}
+use Rattle.rules.specs.Below.{allBelow}
 use Rattle.rules.specs.Limits.{places, mostZones}
 use Rattle.rules.specs.Sets.{has, members}
 use Rattle.rules.specs.Site.{Item}
@@ -21,6 +22,10 @@ Whole l = (length (l .items) ≡ 1024) × (length (l .lens) ≡ 64)
 
 abbrev pub place : ℕ → ℕ → ℕ
 place i j = i * mostZones + j
+
+-- Is there a channel at place k on a site of so many zones: "a line for each ordered pair of different zones"?
+unfoldable pub isChannel : ℕ → ℕ → Bool
+isChannel count k = ltb (k / mostZones) count && ltb (k % mostZones) count && not (eqb (k / mostZones) (k % mostZones))
 
 -- The number of items on channel k.
 abbrev pub lenOf : Channels → ℕ → ℕ
@@ -40,6 +45,10 @@ itemsOn l k = map itemOf (wordsOn l k)
 -- The places behind a channel's last item hold 0, so that equal contents are equal values.
 abbrev pub Clean : Channels → Type 0
 Clean l = (k p : ℕ) → k < 64 → p < places → lenOf l k ≤ p → getD (l .items) (k * places + p) 0 ≡ 0
+
+-- Does no channel from the zone at an index hold an item? Asked of the lengths.
+unfoldable pub allEmpty : List ℕ → ℕ → Bool
+allEmpty lens from = allBelow mostZones (λ j. eqb (getD lens (place from j) 0) 0)
 
 -- Question 8: "Has the line a free place?"
 abbrev pub isFree : Channels → ℕ → Bool

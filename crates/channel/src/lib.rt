@@ -2,10 +2,12 @@
 // hold 0, so that equal contents are equal values. Callers name a channel by its place, which they know to be below 64.
 ghost use mathlib.Core.Path.{_≡_};
 ghost use mathlib.Core.List.{List};
-ghost use Prim.Native.Nat.{ℕ, _<_};
+ghost use Prim.Native.Nat.{ℕ, _<_, min};
 ghost use lib.ListN.{getD};
 ghost use Rattle.channel.specs.Channels.{
   channelsAs,
+  isChannel,
+  allEmpty,
   pushed,
   popped,
   firstOf,
@@ -24,6 +26,42 @@ pub fn place(from: usize, to: usize) -> usize
     ensures { λ k. ⌜ (k ≡ Rattle.channel.specs.Channels.place from to) × (k < 64) ⌝ }
 {
     from * 8 + to
+}
+
+// Whether a site of `count` zones has a channel at place k.
+pub fn is_channel(count: u8, k: usize) -> bool
+    ensures { λ r. ⌜ r ≡ isChannel count k ⌝ }
+{
+    let a = k / 8 < count as usize;
+    let b = k % 8 < count as usize;
+    let c = k / 8 != k % 8;
+    a & b & c
+}
+
+// Whether no channel from a zone holds an item: one test of eight bytes spares eight of a channel. The index is of a zone of a site.
+pub fn all_empty(lens: &[u8; 64], from: usize) -> bool
+    requires { ⌜ from < 8 ⌝ }
+    ensures { λ r. ⌜ r ≡ allEmpty (now (lens .entry)) from ⌝ }
+{
+    let at = from * 8;
+    (lens[at] == 0)
+        & (lens[at + 1] == 0)
+        & (lens[at + 2] == 0)
+        & (lens[at + 3] == 0)
+        & (lens[at + 4] == 0)
+        & (lens[at + 5] == 0)
+        & (lens[at + 6] == 0)
+        & (lens[at + 7] == 0)
+}
+
+// The number of words that a channel of this length has: no more than its places.
+pub fn looked_at(len: u8) -> usize
+    ensures { λ n. ⌜ n ≡ min len 16 ⌝ }
+{
+    if 16 < len {
+        return 16;
+    }
+    len as usize
 }
 
 // One item more at the end of a channel; a full channel stays as it is. The place is one that `place` gives.

@@ -1,4 +1,4 @@
--- The texts of case A's recording and of a refused one, and short texts, by computing. Assumes nothing.
+-- The texts of case A's recording and of a refused one, and short texts, by computing.
 use mathlib.Core.Path.{_≡_, refl}
 use mathlib.Core.List.{[], _∷_}
 use Rattle.text.specs.Codes.{codes}

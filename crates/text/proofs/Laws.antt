@@ -1,4 +1,4 @@
--- A text stored character by character at the front of lent bytes is printed. Assumes nothing.
+-- A text stored character by character at the front of lent bytes is printed.
 use mathlib.Core.Path.{_≡_, refl, sym, _∙_}
 use mathlib.Core.List.{List, [], _∷_, _++_}
 use Prim.Native.Nat.{ℕ, suc, _+_, _-_, _*_, _/_, _%_, _<_, _≤_}

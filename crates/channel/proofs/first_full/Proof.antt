@@ -1,4 +1,4 @@
--- `first_full` meets its contract. The loop's invariant: the first full one of the zones that are left is that of all. Assumes nothing.
+-- `first_full` meets its contract. The loop's invariant: the first full one of the zones that are left is that of all.
 use borrow.Author.Needs.{needs}
 use borrow.Author.Tests.{lt-ltb, le-ltb}
 use mathlib.Core.List.{List}

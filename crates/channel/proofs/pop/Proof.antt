@@ -1,4 +1,4 @@
--- `pop` meets its contract. The loop's invariant: moving the places that are left down gives what moving all 15 gives. Assumes nothing.
+-- `pop` meets its contract. The loop's invariant: moving the places that are left down gives what moving all 15 gives.
 use borrow.Author.Needs.{needs}
 use mathlib.Core.Path.{_≡_, refl, sym, subst, _∙_, ap}
 use Prim.Native.Nat.{ℕ, _≤_, _-_, _+_, _*_}

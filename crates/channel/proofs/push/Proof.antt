@@ -1,4 +1,4 @@
--- `push` meets its contract: a full channel stays, and otherwise both writes are those of `pushed`. Assumes nothing.
+-- `push` meets its contract: a full channel stays, and otherwise both writes are those of `pushed`.
 use borrow.Author.Needs.{needs}
 use borrow.Author.Tests.{lt-ltb, le-ltb}
 use native.Mathlib.Omega.{arith}

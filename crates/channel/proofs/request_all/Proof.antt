@@ -1,5 +1,5 @@
 -- `request_all` meets its contract. The loop's invariant: as many turns are left as zones, and what sending to those gives is what
--- sending to all gives. Assumes nothing.
+-- sending to all gives.
 use borrow.Author.Needs.{needs}
 use mathlib.Core.Path.{_≡_, refl, ap}
 use Prim.Native.Nat.{ℕ, _-_, _<_}

@@ -1,4 +1,4 @@
--- `decimal` meets its contract: its stores are those of the digits. Assumes nothing.
+-- `decimal` meets its contract: its stores are those of the digits.
 use mathlib.Core.Path.{_≡_, ap}
 use mathlib.Core.List.{[], _∷_}
 use Prim.Native.Nat.{_/_, _%_}

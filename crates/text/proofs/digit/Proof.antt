@@ -1,4 +1,4 @@
--- `digit` meets its contract, by its test. Assumes nothing.
+-- `digit` meets its contract, by its test.
 use borrow.Author.Tests.{lt-ltb, le-ltb}
 use Rattle.text.specs.Text.{digitCode}
 use borrow.Author.Needs.{needs}

@@ -1,4 +1,4 @@
--- `refused` meets its contract: its stores are those of the word, the digits and the line feed. Assumes nothing.
+-- `refused` meets its contract: its stores are those of the word, the digits and the line feed.
 use mathlib.Core.Path.{_∙_, ap}
 use native.Mathlib.Omega.{arith}
 use lib.ListN.{length, length-set}

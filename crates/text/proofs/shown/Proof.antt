@@ -1,4 +1,4 @@
--- `shown` meets its contract. The loop's invariant: storing the bytes that are left gives what storing all of them gives. Assumes nothing.
+-- `shown` meets its contract. The loop's invariant: storing the bytes that are left gives what storing all of them gives.
 use mathlib.Core.Path.{_≡_, refl, _∙_}
 use mathlib.Core.Logic.{⊎-elim}
 use mathlib.Core.List.{[]}

@@ -1,4 +1,4 @@
--- `size` meets its contract, by its tests. Assumes nothing.
+-- `size` meets its contract, by its tests.
 use native.Mathlib.Omega.{arith}
 use Rattle.text.proofs.Laws.{one-digit, two-digits, three-digits}
 use Rattle.text.proofs.size.Statement.{statement}

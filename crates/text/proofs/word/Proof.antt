@@ -1,4 +1,4 @@
--- `word` meets its contract: its stores are those of the word. Assumes nothing.
+-- `word` meets its contract: its stores are those of the word.
 use native.Mathlib.Omega.{arith}
 use lib.ListN.{length-set}
 use borrow.Author.Needs.{needs}
