@@ -1,4 +1,4 @@
--- Stocks: a sum one step longer, and a list of 8 by its places. Assumes nothing.
+-- Stocks: a sum one step longer, and a list of 8 by its places.
 use mathlib.Core.Path.{_≡_, refl, sym}
 use mathlib.Core.List.{List, [], _∷_}
 use Prim.Native.Nat.{ℕ, zero, suc, _+_}

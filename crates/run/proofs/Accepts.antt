@@ -1,4 +1,4 @@
--- Calls that a sound run accepts: no question is answered no without a cause that the site shows. Assumes nothing.
+-- Calls that a sound run accepts: no question is answered no without a cause that the site shows.
 use mathlib.Core.Path.{_≡_, refl, sym, _∙_, ap, subst}
 use mathlib.Core.Bool.{Bool, true, false, _||_, not, true≢false}
 use mathlib.Core.Logic.{_≢_}
@@ -9,7 +9,7 @@ use lib.Dec.{eqb}
 use lib.ListN.{length}
 use borrow.Author.Tests.{lt-ltb, le-leb, ne-eqb}
 use Rattle.rules.specs.Limits.{mostRecords, places}
-use Rattle.rules.specs.Questions.{Question, ask, index, isOn}
+use Rattle.rules.specs.Questions.{index, isOn}
 use Rattle.rules.specs.Sets.{has, nobody}
 use Rattle.rules.specs.Zone.{isPermanent, asked}
 use Rattle.rules.specs.Site.{Item, message, request}
@@ -19,21 +19,20 @@ use Rattle.local.specs.Asked.{requestedBy, startedBy}
 use Rattle.channel.specs.Words.{itemOf}
 use Rattle.channel.specs.Channels.{place, lenOf, isFree, firstOf, freeBelow, allFree}
 use Rattle.channel.proofs.View.{items-length}
-use Rattle.run.specs.State.{zoneAt, isSound, hasStarted}
-use Rattle.run.specs.Calls.{refused, isPair, taken}
+use Rattle.run.specs.State.{zoneAt, isSound, hasStarted, countOf}
+use Rattle.run.specs.Calls.{refused, isPair, taken, granted, questions}
 use Rattle.run.specs.Model.{siteOf}
-use Rattle.run.specs.Lists.{SiteCall, Send, Receive, Start, isAccepted}
+use Rattle.run.specs.Lists.{isAccepted}
 use Rattle.run.specs.Claims.{WholeRun}
 use Rattle.run.specs.declared.Run.{Run}
 use Rattle.run.specs.declared.Answer.{Answer}
-use Rattle.run.proofs.Outcome.{AllYes, questions, granted, answer-is, Pair, pair, zone-sited}
+use Rattle.run.proofs.Outcome.{answer-is, Pair, pair, zone-sited}
 use Rattle.run.proofs.BelowLaws.{any-of-none}
 use Rattle.run.proofs.Parts.{on-site, zone-on, channel-on, SoundRun, parts}
 use Rattle.run.proofs.SetBounds.{has-lt, asked-deps, asked-other}
-
-ask-yes : {A : Type 0} (qs : List Question) (f : ℕ → A) (x : A) → AllYes qs → ask qs f x ≡ x
-ask-yes [] f x h = refl
-ask-yes (q ∷ qs) f x h = rw (h .0) (ask-yes qs f x (h .1))
+use Rattle.run.specs.declared.SiteCall.{SiteCall}
+use Rattle.run.specs.declared.SiteCall.the-variants.{Receive, Send, Start}
+use Rattle.rules.proofs.AskLaws.{AllYes, ask-yes}
 
 accepted-if : (c : SiteCall) (r : Run) → AllYes (questions c r) → isAccepted c r ≡ true
 accepted-if c r h = ap (λ (x : Answer). eqb (x .refusal) 0) (answer-is c r ∙ ask-yes (questions c r) (refused r) (granted c r) h)
@@ -47,14 +46,14 @@ not-of e = rw e
 
 module _ (r : Run) (w : WholeRun r) (s : SoundRun r) where
   -- The length of a channel of the site.
-  len-is : (a b : ℕ) → Pair (r .count) a b → length (siteOf r .channel a b) ≡ lenOf (r .channels) (place a b)
+  len-is : (a b : ℕ) → Pair (countOf (r .head)) a b → length (siteOf r .channel a b) ≡ lenOf (r .channels) (place a b)
   len-is a b p =
-      let o = on-site (r .count) a b (s .most) (p .from) (p .to) (p .apart) in
+      let o = on-site (countOf (r .head)) a b (s .most) (p .from) (p .to) (p .apart) in
       ap length (channel-on r a b o)
       ∙ items-length (r .channels) (place a b) (w .channels) (omega (arith, p .from, p .to, s .most)) (s .lens a b o)
 
   -- A set of zones of the site, other than b, to each of which the channel has a free place.
-  module _ (b to : ℕ) (h : b < r .count) (d : (j : ℕ) → has to j ≡ true → (j < r .count) × (j ≢ b))
+  module _ (b to : ℕ) (h : b < countOf (r .head)) (d : (j : ℕ) → has to j ≡ true → (j < countOf (r .head)) × (j ≢ b))
       (room : (j : ℕ) → length (siteOf r .channel b j) < places) where
     one-free : (j : ℕ) (t : Bool) → has to j ≡ t → not t || isFree (r .channels) (place b j) ≡ true
     one-free j true e =
@@ -71,49 +70,49 @@ module _ (r : Run) (w : WholeRun r) (s : SoundRun r) where
     unfolding allFree
     all-free = free-to 8
 
-  asked-sited : (b set : ℕ) (z : Local) → z .deps < 2 ^ r .count → (j : ℕ) → has (asked b set z) j ≡ true → (j < r .count) × (j ≢ b)
-  asked-sited b set z e j g = (has-lt (z .deps) (r .count) j e (asked-deps b set z j g), asked-other b set z j g)
+  asked-sited : (b set : ℕ) (z : Local) → z .deps < 2 ^ countOf (r .head) → (j : ℕ) → has (asked b set z) j ≡ true → (j < countOf (r .head)) × (j ≢ b)
+  asked-sited b set z e j g = (has-lt (z .deps) (countOf (r .head)) j e (asked-deps b set z j g), asked-other b set z j g)
 
-  nobody-sited : (b j : ℕ) → has nobody j ≡ true → (j < r .count) × (j ≢ b)
+  nobody-sited : (b j : ℕ) → has nobody j ≡ true → (j < countOf (r .head)) × (j ≢ b)
   nobody-sited b j g = absurd (true≢false (sym g ∙ has-nobody j))
 
-  taken-sited : (a b : ℕ) (x : Item) (z : Local) → z .deps < 2 ^ r .count → (j : ℕ) → has (taken a b x z .to) j ≡ true
-      → (j < r .count) × (j ≢ b)
+  taken-sited : (a b : ℕ) (x : Item) (z : Local) → z .deps < 2 ^ countOf (r .head) → (j : ℕ) → has (taken a b x z .to) j ≡ true
+      → (j < countOf (r .head)) × (j ≢ b)
   unfolding requestedBy
   taken-sited a b (message cars flag) z e j g = nobody-sited b j g
   taken-sited a b (request set) z e j g = go (isPermanent (z .checkpoint)) refl
     where
-      go : (p : Bool) → isPermanent (z .checkpoint) ≡ p → (j < r .count) × (j ≢ b)
+      go : (p : Bool) → isPermanent (z .checkpoint) ≡ p → (j < countOf (r .head)) × (j ≢ b)
       go true q = nobody-sited b j (rw q at g)
       go false q = asked-sited b set z e j (rw q at g)
 
-  deps-at : (k : ℕ) → k < r .count → zoneAt (r .zones) k .deps < 2 ^ r .count
-  deps-at k h = subst (λ (z : Local). z .deps < 2 ^ r .count) (zone-on r k h) (s .deps k h)
+  deps-at : (k : ℕ) → k < countOf (r .head) → zoneAt (r .head) k .deps < 2 ^ countOf (r .head)
+  deps-at k h = subst (λ (z : Local). z .deps < 2 ^ countOf (r .head)) (zone-on r k h) (s .deps k h)
 
 -- A hand-over between zones of the site, below 1,000 records, with stock that covers it and a free place.
-pub send-accepted : (r : Run) (from to cars : ℕ) → WholeRun r → isSound r ≡ true → isPair (r .count) from to ≡ true
-    → r .records < mostRecords → cars ≤ siteOf r .zone (index from) .stock → length (siteOf r .channel (index from) (index to)) < places
+pub send-accepted : (r : Run) (from to cars : ℕ) → WholeRun r → isSound r ≡ true → isPair (countOf (r .head)) from to ≡ true
+    → r .head .records < mostRecords → cars ≤ siteOf r .zone (index from) .stock → length (siteOf r .channel (index from) (index to)) < places
     → isAccepted (Send from to cars) r ≡ true
 send-accepted r from to cars w e p h c f =
     let s = parts r e in
-    let q = pair (r .count) from to p in
+    let q = pair (countOf (r .head)) from to p in
     let l = len-is r w s (index from) (index to) q in
     let v = subst (λ (z : Local). cars ≤ z .stock) (zone-on r (index from) (q .from)) c in
     accepted-if (Send from to cars) r
     (e, (p, (lt-ltb _ _ h, (le-leb _ _ v, (lt-ltb (lenOf (r .channels) (place (index from) (index to))) places (omega arith), tt)))))
 
 -- A receipt from a channel that is not empty, where no channel from the receiver is full.
-pub receive-accepted : (r : Run) (from to : ℕ) → WholeRun r → isSound r ≡ true → isPair (r .count) from to ≡ true
-    → r .records < mostRecords → (siteOf r .channel (index from) (index to) ≡ [] → ⊥)
+pub receive-accepted : (r : Run) (from to : ℕ) → WholeRun r → isSound r ≡ true → isPair (countOf (r .head)) from to ≡ true
+    → r .head .records < mostRecords → (siteOf r .channel (index from) (index to) ≡ [] → ⊥)
     → ((j : ℕ) → length (siteOf r .channel (index to) j) < places) → isAccepted (Receive from to) r ≡ true
 receive-accepted r from to w e p h n f =
     let s = parts r e in
-    let q = pair (r .count) from to p in
+    let q = pair (countOf (r .head)) from to p in
     let a = index from in
     let b = index to in
     let l = len-is r w s a b q in
     let x = itemOf (firstOf (r .channels) (place a b)) in
-    let z = zoneAt (r .zones) b in
+    let z = zoneAt (r .head) b in
     accepted-if (Receive from to) r (
       e,
       (
@@ -129,15 +128,15 @@ receive-accepted r from to w e p h n f =
     )
 
 -- A start while nobody has a permanent checkpoint, where no channel from the starter is full.
-pub start-accepted : (r : Run) (zone : ℕ) → WholeRun r → isSound r ≡ true → isOn (r .count) zone ≡ true → r .records < mostRecords
+pub start-accepted : (r : Run) (zone : ℕ) → WholeRun r → isSound r ≡ true → isOn (countOf (r .head)) zone ≡ true → r .head .records < mostRecords
     → ((k : ℕ) → isPermanent (siteOf r .zone k .checkpoint) ≡ false) → ((j : ℕ) → length (siteOf r .channel (index zone) j) < places)
     → isAccepted (Start zone) r ≡ true
 unfolding hasStarted startedBy
 start-accepted r zone w e p h n f =
     let s = parts r e in
     let a = index zone in
-    let b = zone-sited (r .count) zone p .1 in
-    let z = zoneAt (r .zones) a in
+    let b = zone-sited (countOf (r .head)) zone p .1 in
+    let z = zoneAt (r .head) a in
     accepted-if (Start zone) r (
       e,
       (
@@ -145,7 +144,7 @@ start-accepted r zone w e p h n f =
         (
           lt-ltb _ _ h,
           (
-            not-of (any-of-none (r .count) (λ i. isPermanent (zoneAt (r .zones) i .checkpoint))
+            not-of (any-of-none (countOf (r .head)) (λ i. isPermanent (zoneAt (r .head) i .checkpoint))
                 (λ i c. subst (λ (z : Local). isPermanent (z .checkpoint) ≡ false) (zone-on r i c) (n i))),
             (all-free r w s a (asked a nobody z) b (asked-sited r w s a nobody z (deps-at r w s a b)) f, tt),
           ),

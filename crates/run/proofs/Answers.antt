@@ -1,19 +1,22 @@
 -- The numbers that calls answer: each is 0 or of the call's list, and a sound run answers a hand-over by four numbers of it alone.
--- Assumes nothing.
 use mathlib.Core.Path.{_≡_, refl, sym, _∙_, ap, subst}
 use mathlib.Core.Bool.{Bool, true, false, cond}
 use mathlib.Core.Logic.{_≢_, inl, inr}
 use mathlib.Core.List.{List, [], _∷_}
 use Prim.Native.Nat.{ℕ}
-use Rattle.rules.specs.Questions.{Question, question, ask, refusal, index}
+use Rattle.rules.specs.Questions.{Question, question, ask, refusal, index, Among}
 use Rattle.channel.specs.Channels.{place, lenOf}
-use Rattle.run.specs.State.{zoneAt, isSound}
-use Rattle.run.specs.Calls.{refused, openCall, sendCall}
-use Rattle.run.specs.Lists.{SiteCall, Send, Receive, Start, answer}
-use Rattle.run.specs.Claims.{sendQuestions, sendRefusal, Among, answers}
+use Rattle.run.specs.State.{zoneAt, isSound, countOf}
+use Rattle.run.specs.Calls.{refused, answer, granted, questions}
+use Rattle.run.specs.Claims.{sendQuestions, sendRefusal, answers}
 use Rattle.run.specs.declared.Run.{Run}
 use Rattle.run.specs.declared.Answer.{Answer}
-use Rattle.run.proofs.Outcome.{numbers, questions, openQuestions, granted, answer-is, lacks, not-among}
+use Rattle.run.proofs.Outcome.{answer-is}
+use Rattle.run.specs.declared.SiteCall.{SiteCall}
+use Rattle.run.specs.Opening.{openCall, openQuestions}
+use Rattle.run.specs.declared.SiteCall.the-variants.{Receive, Send, Start}
+use Rattle.run.specs.declared.Opening.{Opening}
+use Rattle.rules.proofs.AskLaws.{lacks, not-among, refusal-among}
 
 ask-refusal : (qs : List Question) (r : Run) (x : Answer) → x .refusal ≡ 0 → ask qs (refused r) x .refusal ≡ refusal qs
 ask-refusal [] r x e = e
@@ -27,26 +30,17 @@ ask-refusal (q ∷ qs) r x e = go (q .yes) (ask-refusal qs r x e)
 pub refusal-is : (c : SiteCall) (r : Run) → answer c r .refusal ≡ refusal (questions c r)
 refusal-is c r = ap (λ (x : Answer). x .refusal) (answer-is c r) ∙ ask-refusal (questions c r) r (granted c r) refl
 
-refusal-among : (qs : List Question) → Among (refusal qs) (0 ∷ numbers qs)
-refusal-among [] = inl refl
-refusal-among (q ∷ qs) = go (q .yes) (refusal-among qs)
-  where
-    go : (b : Bool) → Among (refusal qs) (0 ∷ numbers qs) → Among (cond b (refusal qs) (q .number)) (0 ∷ q .number ∷ numbers qs)
-    go true (inl h) = inl h
-    go true (inr h) = inr (inr h)
-    go false h = inr (inl refl)
-
 -- "Hand-over: 1, 5, 6, 7, 8.": a sound run answers 5 to 8 or 0, by its zone count, its number of records, the sender's stock and the
 -- channel's length.
 pub send-answer : (r : Run) (from to cars : ℕ) → isSound r ≡ true
-    → sendCall r from to cars .refusal
-    ≡ sendRefusal (r .count) (r .records) (zoneAt (r .zones) (index from) .stock) (lenOf (r .channels) (place (index from) (index to)))
+    → answer (Send from to cars) r .refusal
+    ≡ sendRefusal (countOf (r .head)) (r .head .records) (zoneAt (r .head) (index from) .stock) (lenOf (r .channels) (place (index from) (index to)))
     from to cars
-unfolding sendCall
+unfolding answer
 send-answer r from to cars e =
-    let stock = zoneAt (r .zones) (index from) .stock in
+    let stock = zoneAt (r .head) (index from) .stock in
     let len = lenOf (r .channels) (place (index from) (index to)) in
-    ask-refusal (question 1 (isSound r) ∷ sendQuestions (r .count) (r .records) stock len from to cars) r (granted (Send from to cars) r)
+    ask-refusal (question 1 (isSound r) ∷ sendQuestions (countOf (r .head)) (r .head .records) stock len from to cars) r (granted (Send from to cars) r)
     refl
     ∙ rw e
 
@@ -64,11 +58,11 @@ call-among c r =
     go (Receive from to) = refusal-among (questions (Receive from to) r)
     go (Start zone) = refusal-among (questions (Start zone) r)
 
-pub open-among : (count : ℕ) (stocks : List ℕ) → Among (openCall count stocks .refusal) (0 ∷ 2 ∷ 3 ∷ 4 ∷ [])
+pub open-among : (o : Opening) → Among (openCall o .refusal) (0 ∷ 2 ∷ 3 ∷ 4 ∷ [])
 unfolding openCall
-open-among count stocks =
-    subst (λ (n : ℕ). Among n (0 ∷ 2 ∷ 3 ∷ 4 ∷ [])) (sym (ask-refusal (openQuestions count stocks) _ _ refl))
-    (refusal-among (openQuestions count stocks))
+open-among o =
+    subst (λ (n : ℕ). Among n (0 ∷ 2 ∷ 3 ∷ 4 ∷ [])) (sym (ask-refusal (openQuestions o) _ _ refl))
+    (refusal-among (openQuestions o))
 
 -- No call answers 20.
 pub call-never-20 : (c : SiteCall) (r : Run) → answer c r .refusal ≢ 20
@@ -79,5 +73,5 @@ call-never-20 c r = not-among (answer c r .refusal) 20 (answers c) (call-among c
     go (Receive from to) = refl
     go (Start zone) = refl
 
-pub open-never-20 : (count : ℕ) (stocks : List ℕ) → openCall count stocks .refusal ≢ 20
-open-never-20 count stocks = not-among (openCall count stocks .refusal) 20 (0 ∷ 2 ∷ 3 ∷ 4 ∷ []) (open-among count stocks) refl
+pub open-never-20 : (o : Opening) → openCall o .refusal ≢ 20
+open-never-20 o = not-among (openCall o .refusal) 20 (0 ∷ 2 ∷ 3 ∷ 4 ∷ []) (open-among o) refl

@@ -1,11 +1,12 @@
--- Laws of tests, sums and lists over the numbers below n. Assumes nothing.
-use mathlib.Core.Path.{_≡_, refl, _∙_, ap}
-use mathlib.Core.Bool.{Bool, true, false}
+-- Laws of tests, sums and lists over the numbers below n.
+use mathlib.Core.Path.{_≡_, refl, sym, _∙_, ap}
+use mathlib.Core.Bool.{Bool, true, false, _&&_, _||_, and-true, and-assoc}
 use mathlib.Core.Logic.{_≢_, _⊎_, inl, inr}
 use mathlib.Core.List.{List, [], _∷_, _++_}
-use Prim.Native.Nat.{ℕ, zero, suc, _+_, _<_}
+use Prim.Native.Nat.{ℕ, zero, suc, _+_, _<_, _≤_}
+use native.Mathlib.Numerals.{add-one}
 use native.Mathlib.Omega.{arith}
-use native.Mathlib.Nat.{not-suc-le-zero}
+use native.Mathlib.Nat.{not-suc-le-zero, add-zero, add-suc}
 use lib.ListN.{length, getD, length-append, List·getD-append}
 use lib.Seq.{getD-at}
 use Rattle.rules.proofs.Tests.{and-left, and-right, or-off-left, or-off-right, Same, same?}
@@ -88,3 +89,56 @@ list-at (suc n) f d i h = go (λ b. list-at n f d i b) (split i n h)
     go : (i < n → getD (listBelow n f) i d ≡ f i) → (i < n) ⊎ (i ≡ n) → getD (listBelow n f ++ (f n ∷ [])) i d ≡ f i
     go more (inl b) = let q = length-below n f in List·getD-append (listBelow n f) (f n ∷ []) d i (omega arith) ∙ more b
     go more (inr b) = rw b (getD-at (listBelow n f) (f n) [] d n (length-below n f))
+
+-- The tests and sums over the numbers below a reached end.
+pub all-to : (f : ℕ → Bool) {i n : ℕ} → i ≡ n → allBelow i f ≡ allBelow n f
+all-to f e = ap (λ (m : ℕ). allBelow m f) e
+
+pub sum-to : (f : ℕ → ℕ) {i n : ℕ} → i ≡ n → sumBelow i f ≡ sumBelow n f
+sum-to f e = ap (λ (m : ℕ). sumBelow m f) e
+
+pub any-to : (f : ℕ → Bool) {i n : ℕ} → i ≡ n → anyBelow i f ≡ anyBelow n f
+any-to f e = ap (λ (m : ℕ). anyBelow m f) e
+
+-- One number more.
+pub all-next : (f : ℕ → Bool) (i : ℕ) {s r : Bool} → s ≡ allBelow i f → r ≡ f i → s && r ≡ allBelow (i + 1) f
+all-next f i e g = rw (add-one i, e, g)
+
+pub sum-next : (f : ℕ → ℕ) (i : ℕ) {n m : ℕ} → n ≡ sumBelow i f → m ≡ f i → n + m ≡ sumBelow (i + 1) f
+sum-next f i e g = rw (add-one i, e, g)
+
+pub any-next : (f : ℕ → Bool) (i : ℕ) {s r : Bool} → s ≡ anyBelow i f → r ≡ f i → s || r ≡ anyBelow (i + 1) f
+any-next f i e g = rw (add-one i, e, g)
+
+-- The numbers below n, and m more.
+pub all-add : (n m : ℕ) (f : ℕ → Bool) → allBelow (n + m) f ≡ allBelow n f && allBelow m (λ i. f (n + i))
+all-add n zero f = simp add-zero (sym (and-true _))
+all-add n (suc m) f = simp add-suc (ap (λ (b : Bool). b && f (n + m)) (all-add n m f) ∙ and-assoc (allBelow n f) (allBelow m (λ i. f (n + i))) (f (n + m)))
+
+pub sum-add : (n m : ℕ) (f : ℕ → ℕ) → sumBelow (n + m) f ≡ sumBelow n f + sumBelow m (λ i. f (n + i))
+sum-add n zero f = simp add-zero refl
+sum-add n (suc m) f = let h = sum-add n m f in simp add-suc (omega arith)
+
+-- What is true, or 0, from n on adds nothing to a test or a sum.
+pub all-end : (n m : ℕ) (f : ℕ → Bool) → n ≤ m → ((i : ℕ) → n ≤ i → i < m → f i ≡ true) → allBelow m f ≡ allBelow n f
+all-end n zero f h t =
+    let e : zero ≡ n = omega arith in
+    all-to f e
+all-end n (suc m) f h t = go (λ b. all-end n m f b (λ i c d. t i c (omega arith))) (same? n (suc m))
+  where
+    go : (n ≤ m → allBelow m f ≡ allBelow n f) → Same n (suc m) → allBelow m f && f m ≡ allBelow n f
+    go more (inl e) = sym (all-to f (e .0))
+    go more (inr e) = rw (more (omega (arith, e .0)), t m (omega (arith, e .0)) (omega arith)) (and-true _)
+
+pub sum-end : (n m : ℕ) (f : ℕ → ℕ) → n ≤ m → ((i : ℕ) → n ≤ i → i < m → f i ≡ 0) → sumBelow m f ≡ sumBelow n f
+sum-end n zero f h t =
+    let e : zero ≡ n = omega arith in
+    sum-to f e
+sum-end n (suc m) f h t = go (λ b. sum-end n m f b (λ i c d. t i c (omega arith))) (same? n (suc m))
+  where
+    go : (n ≤ m → sumBelow m f ≡ sumBelow n f) → Same n (suc m) → sumBelow m f + f m ≡ sumBelow n f
+    go more (inl e) = sym (sum-to f (e .0))
+    go more (inr e) =
+        let s = more (omega (arith, e .0)) in
+        let z = t m (omega (arith, e .0)) (omega arith) in
+        omega (arith, s, z)

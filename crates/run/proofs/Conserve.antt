@@ -1,4 +1,4 @@
--- Stocks plus cars on channels stay the same by any list of calls, and are what the opening brought. Assumes nothing.
+-- Stocks plus cars on channels stay the same by any list of calls, and are what the opening brought.
 use mathlib.Core.Path.{_≡_, refl, sym, _∙_, ap, ap₂, subst}
 use mathlib.Core.Bool.{Bool, true, false, _&&_, not}
 use mathlib.Core.Logic.{_≢_, _⊎_, inl, inr}
@@ -19,18 +19,21 @@ use Rattle.rules.proofs.Tests.{both-true, eqb-refl}
 use Rattle.channel.specs.Channels.{place}
 use Rattle.channel.specs.Words.{carsIn}
 use Rattle.rules.specs.Below.{sum}
-use Rattle.run.specs.State.{carsOf, openedRun}
-use Rattle.run.specs.Calls.{openCall}
+use Rattle.run.specs.State.{carsOf, countOf}
+use Rattle.run.specs.Calls.{answer, granted}
 use Rattle.run.specs.Model.{siteOf}
-use Rattle.run.specs.Lists.{SiteCall, answer, callOf, after}
+use Rattle.run.specs.Lists.{callOf, after}
 use Rattle.run.specs.Claims.{WholeRun, Typed, AllTyped, allCars}
 use Rattle.run.specs.declared.Run.{Run}
 use Rattle.run.specs.declared.Answer.{Answer}
-use Rattle.run.proofs.Outcome.{Pair, Sited, sited, granted, Passed, Refused, outcome, is-open}
+use Rattle.run.proofs.Outcome.{Pair, Sited, sited, Passed, Refused, outcome, is-open, Fitting}
 use Rattle.run.proofs.BelowLaws.{sum-same, sum-changed, sum-list}
 use Rattle.run.proofs.Parts.{stocksS, carsS, stocks-are, cars-are, parts}
 use Rattle.run.proofs.Whole.{call-whole, open-whole}
 use Rattle.run.proofs.Refine.{refine, opened-site}
+use Rattle.run.specs.declared.SiteCall.{SiteCall}
+use Rattle.run.specs.declared.Opening.{Opening}
+use Rattle.run.specs.Opening.{openCall, openedRun}
 
 cars-join : (x : Item) (xs : List Item) → carsOf (join x xs) ≡ carsOf xs + carsIn x
 cars-join x [] = omega arith
@@ -126,7 +129,7 @@ step-keeps n (receive a b) s most p m = take-keeps n most a b p s (s .channel a 
 step-keeps n (start a) s most p m = ask-keeps n a _ _ started s (λ z. refl)
 
 -- The cars of a run are those of its site.
-pub cars-at : (r : Run) → allCars r ≡ stocksS (r .count) (siteOf r) + carsS (siteOf r)
+pub cars-at : (r : Run) → allCars r ≡ stocksS (countOf (r .head)) (siteOf r) + carsS (siteOf r)
 cars-at r = ap₂ _+_ (stocks-are r) (cars-are r)
 
 pub call-conserves : (c : SiteCall) (r : Run) → WholeRun r → Typed c → allCars (answer c r .run) ≡ allCars r
@@ -136,24 +139,24 @@ call-conserves c r w t = go (outcome c r)
     go (inl p) =
         let e = ap (λ (x : Answer). x .run) (p .result) in
         let (q, m) = refine c r w t (p .said) in
-        ap allCars e ∙ cars-at (granted c r .run) ∙ ap (total (r .count)) (sym (ap siteOf e) ∙ q)
-        ∙ step-keeps (r .count) (callOf c) (siteOf r) (parts r (p .sound) .most) (sited c r p) m ∙ sym (cars-at r)
+        ap allCars e ∙ cars-at (granted c r .run) ∙ ap (total (countOf (r .head))) (sym (ap siteOf e) ∙ q)
+        ∙ step-keeps (countOf (r .head)) (callOf c) (siteOf r) (parts r (p .sound) .most) (sited c r p) m ∙ sym (cars-at r)
     go (inr p) = ap allCars (p .kept)
 
 pub conserve-from : (cs : List SiteCall) (r : Run) → WholeRun r → AllTyped cs → allCars (after cs r) ≡ allCars r
 conserve-from [] r w t = refl
 conserve-from (c ∷ cs) r w t = conserve-from cs (answer c r .run) (call-whole c r w) (t .1) ∙ call-conserves c r w (t .0)
 
-pub opened-cars : (count : ℕ) (stocks : List ℕ) → count ≤ 8 → length stocks ≡ count → allCars (openedRun count stocks) ≡ sum stocks
+pub opened-cars : (o : Opening) → Fitting o → allCars (openedRun o) ≡ sum (o .stocks)
 unfolding openedRun carsS
-opened-cars count stocks m h =
-    cars-at (openedRun count stocks) ∙ ap (total count) (opened-site count stocks m h)
-    ∙ rw (← h) (ap (λ (n : ℕ). n + 0) (sum-list stocks) ∙ omega arith)
+opened-cars o f =
+    cars-at (openedRun o) ∙ ap (total (o .terms .count)) (opened-site o f)
+    ∙ rw (← f .lengths) (ap (λ (n : ℕ). n + 0) (sum-list (o .stocks)) ∙ omega arith)
 
 -- From an accepted opening, after any list of calls.
-pub conserve : (count : ℕ) (stocks : List ℕ) (cs : List SiteCall) → openCall count stocks .refusal ≡ 0 → AllTyped cs
-    → allCars (after cs (openCall count stocks .run)) ≡ sum stocks
-conserve count stocks cs e t =
-    let o = is-open count stocks e in
-    conserve-from cs (openCall count stocks .run) (open-whole count stocks) t
-    ∙ ap (λ (x : Answer). allCars (x .run)) (o .result) ∙ opened-cars count stocks (o .most) (o .lengths)
+pub conserve : (o : Opening) (cs : List SiteCall) → openCall o .refusal ≡ 0 → AllTyped cs
+    → allCars (after cs (openCall o .run)) ≡ sum (o .stocks)
+conserve o cs e t =
+    let p = is-open o e in
+    conserve-from cs (openCall o .run) (open-whole o) t
+    ∙ ap (λ (x : Answer). allCars (x .run)) (p .result) ∙ opened-cars o (p .fits)

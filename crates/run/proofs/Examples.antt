@@ -1,4 +1,4 @@
--- Short lists of calls, computed: openings and calls of every kind are accepted, and do what the rules say. Assumes nothing.
+-- Short lists of calls, computed: openings and calls of every kind are accepted, and do what the rules say.
 use mathlib.Core.Path.{_≡_, refl}
 use mathlib.Core.Bool.{true, false}
 use mathlib.Core.List.{List, [], _∷_}
@@ -8,17 +8,20 @@ use Rattle.rules.specs.Sets.{has, members}
 use Rattle.rules.specs.Site.{message, request, send, receive, start}
 use Rattle.local.specs.Asked.{requestedBy, startedBy}
 use Rattle.channel.specs.Words.{itemOf, messageWord}
-use Rattle.channel.specs.Channels.{pushed, movedDown, popped, allFree, requestedAll}
-use Rattle.run.specs.State.{isChannel, zoneSound, zonesSound, channelSound, channelsSound, stocks, carsOnChannels, partsSound, hasStarted, openedRun}
-use Rattle.run.specs.Calls.{isPair, openCall, sendCall, receiveCall, startCall}
+use Rattle.channel.specs.Channels.{pushed, movedDown, popped, allFree, requestedAll, isChannel}
+use Rattle.run.specs.State.{zoneSound, zonesSound, channelSound, channelsSound, stocks, carsOnChannels, partsSound, hasStarted}
+use Rattle.run.specs.Calls.{isPair, answer}
 use Rattle.run.specs.Model.{siteOf}
-use Rattle.run.specs.Lists.{SiteCall, Send, Receive, Start, answer, after, acceptedCalls}
+use Rattle.run.specs.Lists.{after, acceptedCalls}
 use Rattle.run.specs.Claims.{allCars}
 use Rattle.run.specs.declared.Run.{Run}
+use Rattle.run.specs.declared.SiteCall.{SiteCall}
+use Rattle.run.specs.declared.SiteCall.the-variants.{Receive, Send, Start}
+use Rattle.run.specs.Opening.{openCall, openedRun, openingAs, termsAs}
 
 -- Three zones with 10, 20 and 30 cars.
 abbrev three : Run
-three = openCall 3 (10 ∷ 20 ∷ 30 ∷ []) .run
+three = openCall (openingAs (termsAs 3) (10 ∷ 20 ∷ 30 ∷ [])) .run
 
 -- Zone 2 takes a mutable checkpoint by the second message of zone 1, so that its own message to zone 3 bears the flag; it is
 -- refused as a second starter.
@@ -53,6 +56,14 @@ abbrev Refused : Type 0
 Refused = (answer (Receive 3 1) (after full three) .refusal ≡ 10)
     × (siteOf (answer (Receive 3 1) (after full three) .run) .channel 2 0 ≡ request 5 ∷ [])
 
-pub computed : Flag × First × Sent × Refused
-unfolding isCount isOn has members requestedBy startedBy itemOf messageWord pushed movedDown popped allFree requestedAll isChannel zoneSound zonesSound channelSound channelsSound stocks carsOnChannels partsSound hasStarted openedRun isPair openCall sendCall receiveCall startCall
-computed = ((refl, refl, refl, refl, refl), (refl, refl), (refl, refl, refl), (refl, refl))
+-- The numbers of refusals: where two questions are answered no, that of the first. Zone 1 has 10 cars, its channel to zone 2 is full,
+-- and zone 3 has started.
+abbrev Numbers : Type 0
+Numbers = (openCall (openingAs (termsAs 9) []) .refusal ≡ 2) × (openCall (openingAs (termsAs 2) (65536 ∷ [])) .refusal ≡ 3) × (openCall (openingAs (termsAs 2) (65535 ∷ 1 ∷ [])) .refusal ≡ 4)
+    × (answer (Send 1 1 0) three .refusal ≡ 5) × (answer (Send 1 2 11) (after full three) .refusal ≡ 7)
+    × (answer (Send 1 2 0) (after full three) .refusal ≡ 8) × (answer (Receive 1 2) three .refusal ≡ 9)
+    × (answer (Start 1) (after full three) .refusal ≡ 11)
+
+pub computed : Flag × First × Sent × Refused × Numbers
+unfolding isCount isOn has members requestedBy startedBy itemOf messageWord pushed movedDown popped allFree requestedAll isChannel zoneSound zonesSound channelSound channelsSound stocks carsOnChannels partsSound hasStarted openedRun isPair openCall answer
+computed = ((refl, refl, refl, refl, refl), (refl, refl), (refl, refl, refl), (refl, refl), (refl, refl, refl, refl, refl, refl, refl, refl))

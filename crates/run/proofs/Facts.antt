@@ -1,4 +1,4 @@
--- What a yes to question 1 says of a run's parts. Assumes nothing.
+-- What a yes to question 1 says of a run's parts.
 use mathlib.Core.Path.{_≡_, _∙_, ap}
 use mathlib.Core.Bool.{Bool, true, _&&_, _||_, not, cond}
 use mathlib.Core.Logic.{_≢_, _⊎_, ⊎-elim}
@@ -13,15 +13,15 @@ use lib.Seq.{getD-take, getD-drop}
 use borrow.Author.Tests.{leb-true, ltb-true, lt-ltb, ne-eqb}
 use Rattle.rules.specs.Questions.{isCount}
 use Rattle.rules.specs.Sets.{within}
-use Rattle.rules.specs.declared.Local.{Local}
 use Rattle.rules.proofs.QuestionLaws.{count-low, count-high}
 use Rattle.rules.proofs.Tests.{and-left, and-right}
 use Rattle.channel.specs.Words.{itemOf, carsIn, setIn}
-use Rattle.channel.specs.Channels.{place, lenOf, wordsOn, itemsOn, firstOf}
+use Rattle.channel.specs.Channels.{place, lenOf, wordsOn, itemsOn, firstOf, isChannel}
 use Rattle.channel.specs.declared.Channels.{Channels}
 use Rattle.rules.specs.Below.{sumBelow}
 use Rattle.run.proofs.BelowLaws.{all-at}
-use Rattle.run.specs.State.{zoneAt, isChannel, zoneSound, zonesSound, setsWithin, channelSound, channelsSound, carsOf, stocks, carsOnChannels, partsSound}
+use Rattle.run.specs.State.{zoneAt, zoneSound, zonesSound, setsWithin, channelSound, channelsSound, carsOf, stocks, carsOnChannels, partsSound, countOf, termsOf}
+use Rattle.run.specs.declared.Head.{Head}
 
 -- A sum over the numbers below n, at one number.
 pub sum-at : (n : ℕ) (f : ℕ → ℕ) (i : ℕ) → i < n → f i ≤ sumBelow n f
@@ -62,9 +62,9 @@ first-word l k h =
     ∙ getD-drop (k * 16) (l .items) 0 0 ∙ ap (λ (j : ℕ). getD (l .items) j 0) z
 
 -- A zone's stock and a channel's cars within the sum of question 1.
-pub stock-le : (count : ℕ) (zones : List Local) (i : ℕ) → i < count → zoneAt zones i .stock ≤ stocks count zones
+pub stock-le : (h : Head) (i : ℕ) → i < countOf h → zoneAt h i .stock ≤ stocks h
 unfolding stocks
-stock-le count zones i h = sum-at count (λ i. zoneAt zones i .stock) i h
+stock-le h i b = sum-at (countOf h) (λ i. zoneAt h i .stock) i b
 
 at-channel : (b : Bool) (x n : ℕ) → b ≡ true → cond b x 0 ≤ n → x ≤ n
 at-channel b x n e h = rw e at h
@@ -74,13 +74,19 @@ unfolding carsOnChannels
 cars-le count l k h e =
     at-channel (isChannel count k) (carsOf (itemsOn l k)) _ e (sum-at 64 (λ k. cond (isChannel count k) (carsOf (itemsOn l k)) 0) k h)
 
-module _ (count records : ℕ) (zones : List Local) (l : Channels) (sound : partsSound count records zones l ≡ true) where
-  front : isCount count && leb records 1000 && zonesSound count records zones && channelsSound count l ≡ true
-  unfolding partsSound
-  front = and-left (isCount count && leb records 1000 && zonesSound count records zones && channelsSound count l) _ sound
+module _ (h : Head) (l : Channels) (sound : partsSound h l ≡ true) where
+  abbrev count : ℕ
+  count = countOf h
 
-  three : isCount count && leb records 1000 && zonesSound count records zones ≡ true
-  three = and-left (isCount count && leb records 1000 && zonesSound count records zones) _ front
+  abbrev records : ℕ
+  records = h .records
+
+  front : isCount count && leb records 1000 && zonesSound h && channelsSound (termsOf h) l ≡ true
+  unfolding partsSound
+  front = and-left (isCount count && leb records 1000 && zonesSound h && channelsSound (termsOf h) l) _ sound
+
+  three : isCount count && leb records 1000 && zonesSound h ≡ true
+  three = and-left (isCount count && leb records 1000 && zonesSound h) _ front
 
   two : isCount count && leb records 1000 ≡ true
   two = and-left (isCount count && leb records 1000) _ three
@@ -97,51 +103,51 @@ module _ (count records : ℕ) (zones : List Local) (l : Channels) (sound : part
   pub sound-records : records ≤ 1000
   sound-records = leb-true records 1000 (and-right (isCount count) (leb records 1000) two)
 
-  sound-zone : (i : ℕ) → i < count → zoneSound count records (zoneAt zones i) ≡ true
+  sound-zone : (i : ℕ) → i < count → zoneSound count records (zoneAt h i) ≡ true
   unfolding zonesSound
-  sound-zone i h =
-      all-at count (λ i. zoneSound count records (zoneAt zones i)) (and-right (isCount count && leb records 1000) (zonesSound count records zones) three) i h
+  sound-zone i b =
+      all-at count (λ i. zoneSound count records (zoneAt h i)) (and-right (isCount count && leb records 1000) (zonesSound h) three) i b
 
-  pub sound-events : (i : ℕ) → i < count → zoneAt zones i .events ≤ records
+  pub sound-events : (i : ℕ) → i < count → zoneAt h i .events ≤ records
   unfolding zoneSound
-  sound-events i h = leb-true (zoneAt zones i .events) records (and-left (leb (zoneAt zones i .events) records) _ (sound-zone i h))
+  sound-events i b = leb-true (zoneAt h i .events) records (and-left (leb (zoneAt h i .events) records) _ (sound-zone i b))
 
-  pub sound-deps : (i : ℕ) → i < count → zoneAt zones i .deps < 2 ^ count
+  pub sound-deps : (i : ℕ) → i < count → zoneAt h i .deps < 2 ^ count
   unfolding zoneSound
-  sound-deps i h =
-      ltb-true (zoneAt zones i .deps) (2 ^ count) (and-right (leb (zoneAt zones i .events) records) (within (zoneAt zones i .deps) count) (sound-zone i h))
+  sound-deps i b =
+      ltb-true (zoneAt h i .deps) (2 ^ count) (and-right (leb (zoneAt h i .events) records) (within (zoneAt h i .deps) count) (sound-zone i b))
 
-  sound-channel : (k : ℕ) → k < 64 → isChannel count k ≡ true → channelSound count l k ≡ true
+  sound-channel : (k : ℕ) → k < 64 → isChannel count k ≡ true → channelSound (termsOf h) l k ≡ true
   unfolding channelsSound
-  sound-channel k h e =
-      let q : not (isChannel count k) || channelSound count l k ≡ true = all-at 64 (λ k. not (isChannel count k) || channelSound count l k)
-      (and-right (isCount count && leb records 1000 && zonesSound count records zones) (channelsSound count l) front) k h in
+  sound-channel k b e =
+      let q : not (isChannel count k) || channelSound (termsOf h) l k ≡ true = all-at 64 (λ k. not (isChannel count k) || channelSound (termsOf h) l k)
+      (and-right (isCount count && leb records 1000 && zonesSound h) (channelsSound (termsOf h) l) front) k b in
       rw e at q
 
   pub sound-length : (k : ℕ) → k < 64 → isChannel count k ≡ true → lenOf l k ≤ 16
   unfolding channelSound
-  sound-length k h e = leb-true (lenOf l k) 16 (and-left (leb (lenOf l k) 16) (setsWithin count (itemsOn l k)) (sound-channel k h e))
+  sound-length k b e = leb-true (lenOf l k) 16 (and-left (leb (lenOf l k) 16) (setsWithin count (itemsOn l k)) (sound-channel k b e))
 
   pub sound-sets : (k : ℕ) → k < 64 → isChannel count k ≡ true → setsWithin count (itemsOn l k) ≡ true
   unfolding channelSound
-  sound-sets k h e = and-right (leb (lenOf l k) 16) (setsWithin count (itemsOn l k)) (sound-channel k h e)
+  sound-sets k b e = and-right (leb (lenOf l k) 16) (setsWithin count (itemsOn l k)) (sound-channel k b e)
 
   pub sound-first : (k : ℕ) → k < 64 → isChannel count k ≡ true → 0 < lenOf l k → setIn (itemOf (firstOf l k)) < 2 ^ count
-  sound-first k h e n =
-      let q = first-set count (wordsOn l k) (sound-sets k h e) in
+  sound-first k b e n =
+      let q = first-set count (wordsOn l k) (sound-sets k b e) in
       ltb-true (setIn (itemOf (firstOf l k))) (2 ^ count) (rw (first-word l k n) at q)
 
-  pub sound-total : stocks count zones + carsOnChannels count l ≤ 65535
+  pub sound-total : stocks h + carsOnChannels count l ≤ 65535
   unfolding partsSound
   sound-total =
-      leb-true (stocks count zones + carsOnChannels count l) 65535
-      (and-right (isCount count && leb records 1000 && zonesSound count records zones && channelsSound count l) _ sound)
+      leb-true (stocks h + carsOnChannels count l) 65535
+      (and-right (isCount count && leb records 1000 && zonesSound h && channelsSound (termsOf h) l) _ sound)
 
   -- A zone has room for what stands first on a channel: the sum of question 1 has both.
   pub sound-room : (i k : ℕ) → i < count → k < 64 → isChannel count k ≡ true → 0 < lenOf l k
-      → zoneAt zones i .stock + carsIn (itemOf (firstOf l k)) ≤ 65535
+      → zoneAt h i .stock + carsIn (itemOf (firstOf l k)) ≤ 65535
   sound-room i k hi hk e n =
-      let s = stock-le count zones i hi in
+      let s = stock-le h i hi in
       let t = cars-le count l k hk e in
       let f : carsIn (itemOf (firstOf l k)) ≤ carsOf (itemsOn l k) = rw (first-word l k n) at (first-cars (wordsOn l k)) in
       let w = sound-total in

@@ -1,5 +1,5 @@
 -- First in, first out: on each channel the messages received, followed by those still on it, are the messages sent, in order, each
--- with the cars and the flag that it was sent with. Assumes nothing.
+-- with the cars and the flag that it was sent with.
 use mathlib.Core.Path.{_≡_, refl, sym, _∙_, ap}
 use mathlib.Core.Bool.{Bool, true, false, cond, _&&_, not}
 use mathlib.Core.List.{List, [], _∷_, _++_, append-nil, append-assoc, tail}
@@ -14,14 +14,18 @@ use Rattle.rules.specs.Cut.{May}
 use Rattle.rules.specs.declared.Local.{Local}
 use Rattle.rules.proofs.Guarded.{on-same}
 use Rattle.rules.proofs.Tests.{both-true}
-use Rattle.run.specs.Calls.{openCall}
+use Rattle.run.specs.Calls.{answer}
 use Rattle.run.specs.Model.{siteOf}
-use Rattle.run.specs.Lists.{SiteCall, Send, Receive, Start, answer, callOf, isAccepted, after, messages, firstMessage, puts, takesOff, sentOn, receivedOn}
+use Rattle.run.specs.Lists.{callOf, isAccepted, after, messages, firstMessage, puts, takesOff, sentOn, receivedOn}
 use Rattle.run.specs.Claims.{WholeRun, AllTyped}
 use Rattle.run.specs.declared.Run.{Run}
 use Rattle.run.proofs.Outcome.{kept}
 use Rattle.run.proofs.Whole.{call-whole}
 use Rattle.run.proofs.Refine.{refine, open-refines}
+use Rattle.run.specs.declared.SiteCall.{SiteCall}
+use Rattle.run.specs.declared.SiteCall.the-variants.{Receive, Send, Start}
+use Rattle.run.specs.declared.Opening.{Opening}
+use Rattle.run.specs.Opening.{openCall}
 
 messages-join : (x : Item) (xs : List Item) → messages (join x xs) ≡ messages xs ++ messages (x ∷ [])
 messages-join x [] = refl
@@ -114,10 +118,10 @@ fifo-from i j (c ∷ cs) r w t =
     one false e = append-nil (on-now r) ∙ ap on-now (sym (kept c r e))
 
 -- From an accepted opening.
-pub fifo : (count : ℕ) (stocks : List ℕ) (cs : List SiteCall) (i j : ℕ) → openCall count stocks .refusal ≡ 0 → AllTyped cs
-    → receivedOn i j cs (openCall count stocks .run) ++ messages (siteOf (after cs (openCall count stocks .run)) .channel i j)
-    ≡ sentOn i j cs (openCall count stocks .run)
-fifo count stocks cs i j e t =
-    let o = openCall count stocks .run in
-    let (q, w) = open-refines count stocks e in
-    sym (fifo-from i j cs o w t) ∙ ap (λ (s : Site). messages (s .channel i j) ++ sentOn i j cs o) q
+pub fifo : (o : Opening) (cs : List SiteCall) (i j : ℕ) → openCall o .refusal ≡ 0 → AllTyped cs
+    → receivedOn i j cs (openCall o .run) ++ messages (siteOf (after cs (openCall o .run)) .channel i j)
+    ≡ sentOn i j cs (openCall o .run)
+fifo o cs i j e t =
+    let r = openCall o .run in
+    let (q, w) = open-refines o e in
+    sym (fifo-from i j cs r w t) ∙ ap (λ (s : Site). messages (s .channel i j) ++ sentOn i j cs r) q

@@ -1,4 +1,4 @@
--- Question 1 as facts: a run is sound exactly when the site that it stands for is within the bounds. Assumes nothing.
+-- Question 1 as facts: a run is sound exactly when the site that it stands for is within the bounds.
 use mathlib.Core.Path.{_≡_, refl, sym, _∙_, ap, ap₂, subst}
 use mathlib.Core.Bool.{Bool, true, false, cond, _&&_, _||_, not}
 use mathlib.Core.Logic.{_≢_}
@@ -12,9 +12,9 @@ use Rattle.rules.specs.Questions.{isCount}
 use Rattle.rules.specs.Site.{Site}
 use Rattle.rules.specs.declared.Local.{Local}
 use Rattle.rules.proofs.Tests.{and-left, and-right}
-use Rattle.channel.specs.Channels.{place, lenOf, itemsOn}
+use Rattle.channel.specs.Channels.{place, lenOf, itemsOn, isChannel}
 use Rattle.rules.specs.Below.{sumBelow}
-use Rattle.run.specs.State.{zoneAt, isChannel, zoneSound, zonesSound, setsWithin, channelSound, channelsSound, carsOf, stocks, carsOnChannels, partsSound, isSound}
+use Rattle.run.specs.State.{zoneAt, zoneSound, zonesSound, setsWithin, channelSound, channelsSound, carsOf, stocks, carsOnChannels, partsSound, isSound, countOf, termsOf}
 use Rattle.run.specs.Model.{siteOf}
 use Rattle.run.specs.declared.Run.{Run}
 use Rattle.run.proofs.BelowLaws.{all-of, sum-same}
@@ -55,31 +55,31 @@ unfoldable pub carsS : Site → ℕ
 carsS s = sumBelow (mostZones * mostZones) (λ k. carsOf (s .channel (k / mostZones) (k % mostZones)))
 
 pub record SoundRun (r : Run) : Type 0 where
-  pub fewest : 2 ≤ r .count
-  pub most : r .count ≤ 8
-  pub records : r .records ≤ mostRecords
-  pub events : (i : ℕ) → i < r .count → siteOf r .zone i .events ≤ r .records
-  pub deps : (i : ℕ) → i < r .count → siteOf r .zone i .deps < 2 ^ r .count
-  pub lens : (i j : ℕ) → onSite (r .count) i j ≡ true → lenOf (r .channels) (place i j) ≤ places
-  pub sets : (i j : ℕ) → onSite (r .count) i j ≡ true → setsWithin (r .count) (siteOf r .channel i j) ≡ true
-  pub cars : stocksS (r .count) (siteOf r) + carsS (siteOf r) ≤ mostCars
+  pub fewest : 2 ≤ countOf (r .head)
+  pub most : countOf (r .head) ≤ 8
+  pub records : r .head .records ≤ mostRecords
+  pub events : (i : ℕ) → i < countOf (r .head) → siteOf r .zone i .events ≤ r .head .records
+  pub deps : (i : ℕ) → i < countOf (r .head) → siteOf r .zone i .deps < 2 ^ countOf (r .head)
+  pub lens : (i j : ℕ) → onSite (countOf (r .head)) i j ≡ true → lenOf (r .channels) (place i j) ≤ places
+  pub sets : (i j : ℕ) → onSite (countOf (r .head)) i j ≡ true → setsWithin (countOf (r .head)) (siteOf r .channel i j) ≡ true
+  pub cars : stocksS (countOf (r .head)) (siteOf r) + carsS (siteOf r) ≤ mostCars
 
 -- What the site shows of a zone and a channel that the run has.
-pub zone-on : (r : Run) (i : ℕ) → i < r .count → siteOf r .zone i ≡ zoneAt (r .zones) i
-zone-on r i h = rw (lt-ltb i (r .count) h)
+pub zone-on : (r : Run) (i : ℕ) → i < countOf (r .head) → siteOf r .zone i ≡ zoneAt (r .head) i
+zone-on r i h = rw (lt-ltb i (countOf (r .head)) h)
 
-pub channel-on : (r : Run) (i j : ℕ) → onSite (r .count) i j ≡ true → siteOf r .channel i j ≡ itemsOn (r .channels) (place i j)
+pub channel-on : (r : Run) (i j : ℕ) → onSite (countOf (r .head)) i j ≡ true → siteOf r .channel i j ≡ itemsOn (r .channels) (place i j)
 channel-on r i j e = rw e
 
-pub stocks-are : (r : Run) → stocks (r .count) (r .zones) ≡ stocksS (r .count) (siteOf r)
+pub stocks-are : (r : Run) → stocks (r .head) ≡ stocksS (countOf (r .head)) (siteOf r)
 unfolding stocks
-stocks-are r = sum-same (r .count) _ _ (λ i h. ap (λ (z : Local). z .stock) (sym (zone-on r i h)))
+stocks-are r = sum-same (countOf (r .head)) _ _ (λ i h. ap (λ (z : Local). z .stock) (sym (zone-on r i h)))
 
-pub cars-are : (r : Run) → carsOnChannels (r .count) (r .channels) ≡ carsS (siteOf r)
+pub cars-are : (r : Run) → carsOnChannels (countOf (r .head)) (r .channels) ≡ carsS (siteOf r)
 unfolding carsOnChannels carsS
-cars-are r = sum-same 64 _ _ (λ k h. at k (isChannel (r .count) k) refl)
+cars-are r = sum-same 64 _ _ (λ k h. at k (isChannel (countOf (r .head)) k) refl)
   where
-    at : (k : ℕ) (p : Bool) → isChannel (r .count) k ≡ p
+    at : (k : ℕ) (p : Bool) → isChannel (countOf (r .head)) k ≡ p
         → cond p (carsOf (itemsOn (r .channels) k)) 0 ≡ carsOf (siteOf r .channel (k / 8) (k % 8))
     at k p e =
         let f : k / 8 * 8 + k % 8 ≡ k = omega arith in
@@ -95,25 +95,25 @@ implies : (p q : Bool) → (p ≡ true → q ≡ true) → not p || q ≡ true
 implies true q h = h refl
 implies false q h = refl
 
-zones-of : (r : Run) → ((i : ℕ) → i < r .count → siteOf r .zone i .events ≤ r .records)
-    → ((i : ℕ) → i < r .count → siteOf r .zone i .deps < 2 ^ r .count) → zonesSound (r .count) (r .records) (r .zones) ≡ true
+zones-of : (r : Run) → ((i : ℕ) → i < countOf (r .head) → siteOf r .zone i .events ≤ r .head .records)
+    → ((i : ℕ) → i < countOf (r .head) → siteOf r .zone i .deps < 2 ^ countOf (r .head)) → zonesSound (r .head) ≡ true
 unfolding zonesSound zoneSound
-zones-of r h k = all-of (r .count) _ (λ i b. rw (← zone-on r i b, le-leb _ _ (h i b)) (lt-ltb _ _ (k i b)))
+zones-of r h k = all-of (countOf (r .head)) _ (λ i b. rw (← zone-on r i b, le-leb _ _ (h i b)) (lt-ltb _ _ (k i b)))
 
-channels-of : (r : Run) → ((i j : ℕ) → onSite (r .count) i j ≡ true → lenOf (r .channels) (place i j) ≤ places)
-    → ((i j : ℕ) → onSite (r .count) i j ≡ true → setsWithin (r .count) (siteOf r .channel i j) ≡ true)
-    → channelsSound (r .count) (r .channels) ≡ true
+channels-of : (r : Run) → ((i j : ℕ) → onSite (countOf (r .head)) i j ≡ true → lenOf (r .channels) (place i j) ≤ places)
+    → ((i j : ℕ) → onSite (countOf (r .head)) i j ≡ true → setsWithin (countOf (r .head)) (siteOf r .channel i j) ≡ true)
+    → channelsSound (termsOf (r .head)) (r .channels) ≡ true
 unfolding channelsSound channelSound
-channels-of r h k = all-of 64 _ (λ p b. implies (isChannel (r .count) p) _ (at p))
+channels-of r h k = all-of 64 _ (λ p b. implies (isChannel (countOf (r .head)) p) _ (at p))
   where
-    at : (p : ℕ) → isChannel (r .count) p ≡ true → channelSound (r .count) (r .channels) p ≡ true
+    at : (p : ℕ) → isChannel (countOf (r .head)) p ≡ true → channelSound (termsOf (r .head)) (r .channels) p ≡ true
     at p c =
         let i = p / 8 in
         let j = p % 8 in
         let f : i * 8 + j ≡ p = omega arith in
         let g : j < 8 = omega arith in
-        let e : onSite (r .count) i j ≡ true = rw (lt-ltb j 8 g, f) c in
-        subst (λ (q : ℕ). channelSound (r .count) (r .channels) q ≡ true) f
+        let e : onSite (countOf (r .head)) i j ≡ true = rw (lt-ltb j 8 g, f) c in
+        subst (λ (q : ℕ). channelSound (termsOf (r .head)) (r .channels) q ≡ true) f
         (rw (le-leb _ _ (h i j e), ← channel-on r i j e) (k i j e))
 
 -- A channel of the site stands at one of the 64 places.
@@ -124,16 +124,16 @@ at-place count i j h e =
 
 pub parts : (r : Run) → isSound r ≡ true → SoundRun r
 parts r h =
-    let m = sound-high _ _ _ _ h in
+    let m = sound-high _ _ h in
     record {
-      fewest = sound-low _ _ _ _ h;
+      fewest = sound-low _ _ h;
       most = m;
-      records = sound-records _ _ _ _ h;
-      events = λ i b. rw (zone-on r i b) (sound-events _ _ _ _ h i b);
-      deps = λ i b. rw (zone-on r i b) (sound-deps _ _ _ _ h i b);
-      lens = λ i j e. let p = at-place (r .count) i j m e in sound-length _ _ _ _ h (place i j) (p .0) (p .1);
-      sets = λ i j e. let p = at-place (r .count) i j m e in rw (channel-on r i j e) (sound-sets _ _ _ _ h (place i j) (p .0) (p .1));
-      cars = subst (λ (x : ℕ). x ≤ mostCars) (ap₂ _+_ (stocks-are r) (cars-are r)) (sound-total _ _ _ _ h);
+      records = sound-records _ _ h;
+      events = λ i b. rw (zone-on r i b) (sound-events _ _ h i b);
+      deps = λ i b. rw (zone-on r i b) (sound-deps _ _ h i b);
+      lens = λ i j e. let p = at-place (countOf (r .head)) i j m e in sound-length _ _ h (place i j) (p .0) (p .1);
+      sets = λ i j e. let p = at-place (countOf (r .head)) i j m e in rw (channel-on r i j e) (sound-sets _ _ h (place i j) (p .0) (p .1));
+      cars = subst (λ (x : ℕ). x ≤ mostCars) (ap₂ _+_ (stocks-are r) (cars-are r)) (sound-total _ _ h);
     }
 
 pub sound : (r : Run) → SoundRun r → isSound r ≡ true

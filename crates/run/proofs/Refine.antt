@@ -1,9 +1,9 @@
--- What an accepted call does to the run is what the rules say of the site that the run stands for. Assumes nothing.
+-- What an accepted call does to the run is what the rules say of the site that the run stands for.
 use mathlib.Core.Path.{_≡_, refl, sym, _∙_, ap, subst}
 use mathlib.Core.Bool.{Bool, true, false, cond, _&&_, not, and-false, true≢false}
 use mathlib.Core.Logic.{_≢_, inl, inr}
 use mathlib.Core.List.{List, [], _∷_, tail}
-use Prim.Native.Nat.{ℕ, zero, suc, _^_, _≤_, _<_}
+use Prim.Native.Nat.{ℕ, zero, suc, _^_, _≤_, _<_, _+_}
 use native.Mathlib.Omega.{arith}
 use lib.Dec.{eqb, ltb}
 use lib.ListN.{length, getD, set, replicate, List·getD-eq-default}
@@ -25,21 +25,23 @@ use Rattle.channel.specs.Words.{itemOf, messageWord}
 use Rattle.channel.specs.Channels.{Whole, place, lenOf, itemsOn, pushed, popped, firstOf, freeBelow, allFree, requestedAll}
 use Rattle.channel.specs.declared.Channels.{Channels}
 use Rattle.channel.proofs.View.{item-message, pop-whole, items-first, items-pushed, items-popped, len-pop-other, requested-items}
-use Rattle.run.specs.State.{noLocal, zoneAt, hasStarted, openedZones, noChannels, openedRun}
-use Rattle.run.specs.Calls.{accepted, taken, openCall}
-use Rattle.run.specs.Model.{siteOf, stocksOf}
-use Rattle.run.specs.Lists.{SiteCall, Send, Receive, Start, answer, callOf, isAccepted}
-use Rattle.run.specs.Claims.{WholeRun, Typed, recordOf}
+use Rattle.run.specs.State.{noLocal, zoneAt, hasStarted, countOf, putBack}
+use Rattle.run.specs.Calls.{accepted, taken, answer, granted, recordOf}
+use Rattle.run.specs.Model.{siteOf}
+use Rattle.run.specs.Lists.{callOf, isAccepted}
+use Rattle.run.specs.Claims.{WholeRun, Typed}
 use Rattle.run.specs.declared.Run.{Run}
 use Rattle.run.specs.declared.Answer.{Answer}
-use Rattle.run.proofs.Outcome.{is-open, Pair, Asks, passed, granted, startBy}
+use Rattle.run.proofs.Outcome.{is-open, Pair, Asks, passed, Fitting, startBy}
 use Rattle.run.proofs.Whole.{open-whole}
 use Rattle.run.proofs.BelowLaws.{any-none, list-at}
 use Rattle.run.proofs.Parts.{onSite, between, on-site, zone-on, channel-on, SoundRun, parts}
 use Rattle.run.proofs.SetBounds.{has-lt, asked-deps, asked-other}
-
-pub site≡ : (s t : Site) → ((k : ℕ) → s .zone k ≡ t .zone k) → ((i j : ℕ) → s .channel i j ≡ t .channel i j) → s ≡ t
-site≡ s t p q = λ x. record { zone = λ k. p k x; channel = λ i j. q i j x }
+use Rattle.run.specs.declared.SiteCall.{SiteCall}
+use Rattle.run.specs.Opening.{noChannels, openCall, openedRun, openedHead, openingOf, stockAt}
+use Rattle.run.specs.declared.SiteCall.the-variants.{Receive, Send, Start}
+use Rattle.run.specs.declared.Opening.{Opening}
+use Rattle.rules.proofs.SiteLaws.{site≡}
 
 -- A store to a list is a change at one place.
 set-on : {A : Type 0} (xs : List A) (a : ℕ) (g : A → A) (k : ℕ) (d : A) → a < length xs
@@ -52,21 +54,21 @@ set-on xs a g k d h = go (same? k a)
 
 -- Zone a changes by g, and each channel of the site by its change.
 site-changed : (r : Run) (a : ℕ) (l : Channels) (word : ℕ) (g : Local → Local) (change : ℕ → ℕ → List Item → List Item)
-    → length (r .zones) ≡ 8 → r .count ≤ 8 → a < r .count
-    → ((i j : ℕ) → onSite (r .count) i j ≡ true → itemsOn l (place i j) ≡ change i j (itemsOn (r .channels) (place i j)))
-    → ((i j : ℕ) → onSite (r .count) i j ≡ false → change i j [] ≡ [])
-    → siteOf (accepted r a (g (zoneAt (r .zones) a)) l word .run)
+    → length (r .head .zones) ≡ 8 → countOf (r .head) ≤ 8 → a < countOf (r .head)
+    → ((i j : ℕ) → onSite (countOf (r .head)) i j ≡ true → itemsOn l (place i j) ≡ change i j (itemsOn (r .channels) (place i j)))
+    → ((i j : ℕ) → onSite (countOf (r .head)) i j ≡ false → change i j [] ≡ [])
+    → siteOf (accepted r a (g (zoneAt (r .head) a)) l word .run)
     ≡ record { zone = λ k. on (eqb k a) g (siteOf r .zone k); channel = λ i j. change i j (siteOf r .channel i j) }
 site-changed r a l word g change w m h inner outer =
-    site≡ _ _ (λ k. zone k (ltb k (r .count)) refl) (λ i j. channel i j (onSite (r .count) i j) refl)
+    site≡ _ _ (λ k. zone k (ltb k (countOf (r .head))) refl) (λ i j. channel i j (onSite (countOf (r .head)) i j) refl)
   where
-    zone : (k : ℕ) (p : Bool) → ltb k (r .count) ≡ p
-        → cond p (zoneAt (set (r .zones) a (g (zoneAt (r .zones) a))) k) (opened k 0)
-        ≡ on (eqb k a) g (cond p (zoneAt (r .zones) k) (opened k 0))
-    zone k true e = set-on (r .zones) a g k noLocal (omega arith)
-    zone k false e = let b = ltb-false k (r .count) e in rw (ne-eqb k a (λ q. omega arith))
+    zone : (k : ℕ) (p : Bool) → ltb k (countOf (r .head)) ≡ p
+        → cond p (zoneAt (putBack (r .head) a (g (zoneAt (r .head) a)) (r .head .records + 1)) k) (opened k 0)
+        ≡ on (eqb k a) g (cond p (zoneAt (r .head) k) (opened k 0))
+    zone k true e = set-on (r .head .zones) a g k noLocal (omega arith)
+    zone k false e = let b = ltb-false k (countOf (r .head)) e in rw (ne-eqb k a (λ q. omega arith))
 
-    channel : (i j : ℕ) (p : Bool) → onSite (r .count) i j ≡ p
+    channel : (i j : ℕ) (p : Bool) → onSite (countOf (r .head)) i j ≡ p
         → cond p (itemsOn l (place i j)) [] ≡ change i j (cond p (itemsOn (r .channels) (place i j)) [])
     channel i j true e = inner i j e
     channel i j false e = sym (outer i j e)
@@ -117,27 +119,27 @@ popped-free l a b to d h f =
 
 module _ (r : Run) (w : WholeRun r) (s : SoundRun r) where
   -- A hand-over from a to b.
-  sent-site : (a b cars word : ℕ) → Pair (r .count) a b → cars < 256 → lenOf (r .channels) (place a b) < places
-      → siteOf (accepted r a (sent cars (zoneAt (r .zones) a))
-      (pushed (r .channels) (place a b) (messageWord (isMarked (zoneAt (r .zones) a .checkpoint)) cars)) word .run)
+  sent-site : (a b cars word : ℕ) → Pair (countOf (r .head)) a b → cars < 256 → lenOf (r .channels) (place a b) < places
+      → siteOf (accepted r a (sent cars (zoneAt (r .head) a))
+      (pushed (r .channels) (place a b) (messageWord (isMarked (zoneAt (r .head) a .checkpoint)) cars)) word .run)
       ≡ sendS a b cars (siteOf r)
   sent-site a b cars word p c free =
-      let x = messageWord (isMarked (zoneAt (r .zones) a .checkpoint)) cars in
+      let x = messageWord (isMarked (zoneAt (r .head) a .checkpoint)) cars in
       let ha : a < 8 = omega (arith, p .from, s .most) in
       let hb : b < 8 = omega (arith, p .to, s .most) in
       let item : itemOf x ≡ message cars (isMarked (siteOf r .zone a .checkpoint)) =
-      item-message (isMarked (zoneAt (r .zones) a .checkpoint)) cars c
+      item-message (isMarked (zoneAt (r .head) a .checkpoint)) cars c
       ∙ ap (λ (z : Local). message cars (isMarked (z .checkpoint))) (sym (zone-on r a (p .from))) in
       site-changed r a (pushed (r .channels) (place a b) x) word (sent cars)
       (λ i j. on (eqb i a && eqb j b) (join (message cars (isMarked (siteOf r .zone a .checkpoint)))))
       (w .zones) (s .most) (p .from)
       (λ i j e.
-      items-pushed (r .channels) a b (w .channels) ha hb x (lt-ltb _ 16 free) i j (between (r .count) i j e .near)
+      items-pushed (r .channels) a b (w .channels) ha hb x (lt-ltb _ 16 free) i j (between (countOf (r .head)) i j e .near)
       ∙ ap (λ (x : Item). on (eqb i a && eqb j b) (join x) (itemsOn (r .channels) (place i j))) item)
-      (λ i j e. rw (off-pair (r .count) a b i j (s .most) p e))
+      (λ i j e. rw (off-pair (countOf (r .head)) a b i j (s .most) p e))
 
   -- Requests that b sends, over channels l: where nobody is asked, what they would carry does not matter.
-  asked-items : (l : Channels) (b to set i j : ℕ) → Whole l → b < r .count → allFree l b to ≡ true → j < 8
+  asked-items : (l : Channels) (b to set i j : ℕ) → Whole l → b < countOf (r .head) → allFree l b to ≡ true → j < 8
       → itemsOn (requestedAll l b to (cond (eqb to 0) 0 set)) (place i j)
       ≡ on (eqb i b && has to j) (join (request set)) (itemsOn l (place i j))
   asked-items l b to set i j v h f hj =
@@ -150,26 +152,26 @@ module _ (r : Run) (w : WholeRun r) (s : SoundRun r) where
       go false e = refl
 
   -- A start by a.
-  started-site : (a word : ℕ) → a < r .count → allFree (r .channels) a (startBy a r .to) ≡ true
+  started-site : (a word : ℕ) → a < countOf (r .head) → allFree (r .channels) a (startBy a r .to) ≡ true
       → siteOf (accepted r a (startBy a r .local) (requestedAll (r .channels) a (startBy a r .to) (startBy a r .carried)) word .run)
       ≡ startS a (siteOf r)
   unfolding startedBy
   started-site a word h f =
-      let z = zoneAt (r .zones) a in
+      let z = zoneAt (r .head) a in
       let to = asked a nobody z in
-      let d : z .deps < 2 ^ r .count = subst (λ (z : Local). z .deps < 2 ^ r .count) (zone-on r a h) (s .deps a h) in
+      let d : z .deps < 2 ^ countOf (r .head) = subst (λ (z : Local). z .deps < 2 ^ countOf (r .head)) (zone-on r a h) (s .deps a h) in
       rw (zone-on r a h)
       (site-changed r a (requestedAll (r .channels) a to (cond (eqb to 0) 0 (carried nobody z))) word started
       (λ i j. on (eqb i a && has to j) (join (request (carried nobody z))))
       (w .zones) (s .most) h
-      (λ i j e. asked-items (r .channels) a to (carried nobody z) i j (w .channels) h f (between (r .count) i j e .near))
-      (λ i j e. rw (off-asked (r .count) a nobody i j z (s .most) h d e)))
+      (λ i j e. asked-items (r .channels) a to (carried nobody z) i j (w .channels) h f (between (countOf (r .head)) i j e .near))
+      (λ i j e. rw (off-asked (countOf (r .head)) a nobody i j z (s .most) h d e)))
 
   -- A receipt by b from a: the first item leaves, b changes by g and sends requests.
-  module _ (a b : ℕ) (p : Pair (r .count) a b) (some : 0 < lenOf (r .channels) (place a b)) (word : ℕ) where
+  module _ (a b : ℕ) (p : Pair (countOf (r .head)) a b) (some : 0 < lenOf (r .channels) (place a b)) (word : ℕ) where
     popped-site : (g : Local → Local) (to set : ℕ) → allFree (r .channels) b to ≡ true
-        → ((i j : ℕ) → onSite (r .count) i j ≡ false → eqb i b && has to j ≡ false)
-        → siteOf (accepted r b (g (zoneAt (r .zones) b))
+        → ((i j : ℕ) → onSite (countOf (r .head)) i j ≡ false → eqb i b && has to j ≡ false)
+        → siteOf (accepted r b (g (zoneAt (r .head) b))
         (requestedAll (popped (r .channels) (place a b)) b to (cond (eqb to 0) 0 set)) word .run)
         ≡ record {
           zone = λ k. on (eqb k b) g (siteOf r .zone k);
@@ -179,19 +181,19 @@ module _ (r : Run) (w : WholeRun r) (s : SoundRun r) where
         let l = popped (r .channels) (place a b) in
         let ha : a < 8 = omega (arith, p .from, s .most) in
         let hb : b < 8 = omega (arith, p .to, s .most) in
-        let few = s .lens a b (on-site (r .count) a b (s .most) (p .from) (p .to) (p .apart)) in
+        let few = s .lens a b (on-site (countOf (r .head)) a b (s .most) (p .from) (p .to) (p .apart)) in
         site-changed r b (requestedAll l b to (cond (eqb to 0) 0 set)) word g
         (λ i j xs. on (eqb i b && has to j) (join (request set)) (on (eqb i a && eqb j b) tail xs))
         (w .zones) (s .most) (p .to)
-        (λ i j e. let near = between (r .count) i j e .near in
+        (λ i j e. let near = between (countOf (r .head)) i j e .near in
         asked-items l b to set i j (pop-whole (r .channels) (place a b) (w .channels)) (p .to)
         (popped-free (r .channels) a b to (p .apart) hb f) near
         ∙ ap (on (eqb i b && has to j) (join (request set))) (items-popped (r .channels) a b (w .channels) ha hb some few i j near))
-        (λ i j e. rw (off i j e, off-pair (r .count) a b i j (s .most) p e))
+        (λ i j e. rw (off i j e, off-pair (countOf (r .head)) a b i j (s .most) p e))
 
     -- Where nobody is asked, only the first item leaves.
     quiet-site : (g : Local → Local) → allFree (r .channels) b nobody ≡ true
-        → siteOf (accepted r b (g (zoneAt (r .zones) b)) (requestedAll (popped (r .channels) (place a b)) b nobody nobody) word .run)
+        → siteOf (accepted r b (g (zoneAt (r .head) b)) (requestedAll (popped (r .channels) (place a b)) b nobody nobody) word .run)
         ≡ record {
           zone = λ k. on (eqb k b) g (siteOf r .zone k);
           channel = λ i j. on (eqb i a && eqb j b) tail (siteOf r .channel i j);
@@ -206,40 +208,40 @@ module _ (r : Run) (w : WholeRun r) (s : SoundRun r) where
         let l = requestedAll (popped (r .channels) (place a b)) b (got .to) (got .carried) in
         siteOf (accepted r b (got .local) l word .run)
 
-    request-site : (set : ℕ) (q : Bool) → isPermanent (zoneAt (r .zones) b .checkpoint) ≡ q
-        → allFree (r .channels) b (requestedBy b set (zoneAt (r .zones) b) .to) ≡ true
-        → takenAs (requestedBy b set (zoneAt (r .zones) b)) ≡ on (not q) (turnS b set) (popS a b (siteOf r))
+    request-site : (set : ℕ) (q : Bool) → isPermanent (zoneAt (r .head) b .checkpoint) ≡ q
+        → allFree (r .channels) b (requestedBy b set (zoneAt (r .head) b) .to) ≡ true
+        → takenAs (requestedBy b set (zoneAt (r .head) b)) ≡ on (not q) (turnS b set) (popS a b (siteOf r))
     unfolding requestedBy
     request-site set true e f =
         rw e (quiet-site (λ z. z) (rw e at f) ∙ site≡ _ _ (λ k. on-same (eqb k b) (siteOf r .zone k)) (λ i j. refl))
     request-site set false e f =
-        let z = zoneAt (r .zones) b in
-        let d : z .deps < 2 ^ r .count = subst (λ (z : Local). z .deps < 2 ^ r .count) (zone-on r b (p .to)) (s .deps b (p .to)) in
+        let z = zoneAt (r .head) b in
+        let d : z .deps < 2 ^ countOf (r .head) = subst (λ (z : Local). z .deps < 2 ^ countOf (r .head)) (zone-on r b (p .to)) (s .deps b (p .to)) in
         rw (e, zone-on r b (p .to))
         (popped-site requested (asked b set z) (carried set z) (rw e at f)
-        (λ i j e. off-asked (r .count) b set i j z (s .most) (p .to) d e))
+        (λ i j e. off-asked (countOf (r .head)) b set i j z (s .most) (p .to) d e))
 
-    taken-site : (x : Item) (rest : List Item) → allFree (r .channels) b (taken a b x (zoneAt (r .zones) b) .to) ≡ true
-        → takenAs (taken a b x (zoneAt (r .zones) b)) ≡ takeS a b (x ∷ rest) (siteOf r)
+    taken-site : (x : Item) (rest : List Item) → allFree (r .channels) b (taken a b x (zoneAt (r .head) b) .to) ≡ true
+        → takenAs (taken a b x (zoneAt (r .head) b)) ≡ takeS a b (x ∷ rest) (siteOf r)
     taken-site (message cars flag) rest f = quiet-site (received a cars flag) f
     taken-site (request set) rest f =
         request-site set (isPermanent (siteOf r .zone b .checkpoint))
         (ap (λ (z : Local). isPermanent (z .checkpoint)) (sym (zone-on r b (p .to)))) f
 
   -- Before an accepted start nobody has a permanent checkpoint.
-  none-permanent : hasStarted (r .count) (r .zones) ≡ false → (k : ℕ) → isPermanent (siteOf r .zone k .checkpoint) ≡ false
+  none-permanent : hasStarted (r .head) ≡ false → (k : ℕ) → isPermanent (siteOf r .zone k .checkpoint) ≡ false
   unfolding hasStarted
-  none-permanent e k = go (ltb k (r .count)) refl
+  none-permanent e k = go (ltb k (countOf (r .head))) refl
     where
-      go : (p : Bool) → ltb k (r .count) ≡ p → isPermanent (cond p (zoneAt (r .zones) k) (opened k 0) .checkpoint) ≡ false
-      go true h = any-none (r .count) (λ i. isPermanent (zoneAt (r .zones) i .checkpoint)) e k (ltb-true k (r .count) h)
+      go : (p : Bool) → ltb k (countOf (r .head)) ≡ p → isPermanent (cond p (zoneAt (r .head) k) (opened k 0) .checkpoint) ≡ false
+      go true h = any-none (countOf (r .head)) (λ i. isPermanent (zoneAt (r .head) i .checkpoint)) e k (ltb-true k (countOf (r .head)) h)
       go false h = refl
 
   -- The first item of a channel that is not empty.
-  first-item : (a b : ℕ) → Pair (r .count) a b → 0 < lenOf (r .channels) (place a b)
+  first-item : (a b : ℕ) → Pair (countOf (r .head)) a b → 0 < lenOf (r .channels) (place a b)
       → siteOf r .channel a b ≡ itemOf (firstOf (r .channels) (place a b)) ∷ tail (itemsOn (r .channels) (place a b))
   first-item a b p h =
-      channel-on r a b (on-site (r .count) a b (s .most) (p .from) (p .to) (p .apart))
+      channel-on r a b (on-site (countOf (r .head)) a b (s .most) (p .from) (p .to) (p .apart))
       ∙ items-first (r .channels) (place a b) (w .channels) (omega (arith, p .from, p .to, s .most)) h
 
   granted-site : (c : SiteCall) → Typed c → Asks c r
@@ -272,26 +274,25 @@ none-at zero k = refl
 none-at (suc n) zero = refl
 none-at (suc n) (suc k) = none-at n k
 
-pub opened-site : (count : ℕ) (stocks : List ℕ) → count ≤ 8 → length stocks ≡ count
-    → siteOf (openedRun count stocks) ≡ openS (stocksOf stocks)
+pub opened-site : (o : Opening) → Fitting o → siteOf (openedRun o) ≡ openS (openingOf o)
 unfolding openedRun
-opened-site count stocks m h = site≡ _ _ (λ k. zone k (ltb k count) refl) (λ i j. channel i j (onSite count i j))
+opened-site o f = site≡ _ _ (λ k. zone k (ltb k (o .terms .count)) refl) (λ i j. channel i j (onSite (o .terms .count) i j))
   where
-    zone : (k : ℕ) (p : Bool) → ltb k count ≡ p
-        → cond p (zoneAt (openedZones stocks) k) (opened k 0) ≡ opened k (getD stocks k 0)
+    zone : (k : ℕ) (p : Bool) → ltb k (o .terms .count) ≡ p
+        → cond p (zoneAt (openedHead o) k) (opened k 0) ≡ opened k (stockAt o k)
     zone k true e =
-        let b = ltb-true k count e in
-        list-at 8 (λ i. opened i (getD stocks i 0)) noLocal k (omega arith)
+        let b = ltb-true k (o .terms .count) e in
+        list-at 8 (λ i. opened i (stockAt o i)) noLocal k (omega (arith, f .most))
     zone k false e =
-        let b = ltb-false k count e in
-        ap (opened k) (sym (List·getD-eq-default stocks 0 (omega arith)))
+        let b = ltb-false k (o .terms .count) e in
+        ap (opened k) (sym (List·getD-eq-default (o .stocks) 0 (omega (arith, f .lengths))))
 
     channel : (i j : ℕ) (p : Bool) → cond p (itemsOn noChannels (place i j)) [] ≡ []
     channel i j true = rw (none-at 64 (place i j))
     channel i j false = refl
 
-pub open-refines : (count : ℕ) (stocks : List ℕ) → openCall count stocks .refusal ≡ 0
-    → (siteOf (openCall count stocks .run) ≡ openS (stocksOf stocks)) × WholeRun (openCall count stocks .run)
-open-refines count stocks e =
-    let o = is-open count stocks e in
-    (ap (λ (x : Answer). siteOf (x .run)) (o .result) ∙ opened-site count stocks (o .most) (o .lengths), open-whole count stocks)
+pub open-refines : (o : Opening) → openCall o .refusal ≡ 0
+    → (siteOf (openCall o .run) ≡ openS (openingOf o)) × WholeRun (openCall o .run)
+open-refines o e =
+    let p = is-open o e in
+    (ap (λ (x : Answer). siteOf (x .run)) (p .result) ∙ opened-site o (p .fits), open-whole o)

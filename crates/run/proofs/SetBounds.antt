@@ -1,4 +1,4 @@
--- The sets that a call makes name only zones of the site, where those that it makes them of do. Assumes nothing.
+-- The sets that a call makes name only zones of the site, where those that it makes them of do.
 use mathlib.Core.Path.{_≡_, refl, sym, _∙_, ap}
 use mathlib.Core.Bool.{Bool, true, false, false≢true}
 use mathlib.Core.Logic.{_≢_}

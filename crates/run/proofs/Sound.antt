@@ -1,4 +1,4 @@
--- A sound run stays sound by any list of calls, refused ones included, and every opening hands back a sound run. Assumes nothing.
+-- A sound run stays sound by any list of calls, refused ones included, and every opening hands back a sound run.
 use mathlib.Core.Path.{_≡_, refl, sym, _∙_, ap, subst}
 use mathlib.Core.Bool.{Bool, true, false, _&&_, _||_, not}
 use mathlib.Core.Logic.{_⊎_, inl, inr}
@@ -26,21 +26,24 @@ use Rattle.channel.specs.Words.{setIn}
 use Rattle.channel.specs.Channels.{Whole, place, lenOf, isFree, pushed, popped, freeBelow, allFree, requestedAll}
 use Rattle.channel.specs.declared.Channels.{Channels}
 use Rattle.channel.proofs.View.{pop-whole, lens-pushed, lens-popped, requested-lens}
-use Rattle.rules.specs.Below.{sum}
-use Rattle.run.specs.State.{setsWithin, isSound, openedRun}
-use Rattle.run.specs.Calls.{openCall}
+use Rattle.run.specs.State.{setsWithin, isSound, countOf}
+use Rattle.run.specs.Calls.{answer, channelsAfter, granted, actorIn}
 use Rattle.run.specs.Model.{siteOf}
-use Rattle.run.specs.Lists.{SiteCall, Send, Receive, Start, answer, callOf, after}
+use Rattle.run.specs.Lists.{callOf, after}
 use Rattle.run.specs.Claims.{WholeRun, Typed, AllTyped, allCars}
 use Rattle.run.specs.declared.Run.{Run}
 use Rattle.run.specs.declared.Answer.{Answer}
-use Rattle.run.proofs.Outcome.{Sited, sited, Asks, channelsAfter, granted, Passed, Refused, outcome, Opened, NotOpened, open-outcome}
+use Rattle.run.proofs.Outcome.{Sited, sited, Asks, Passed, Refused, outcome, Opened, NotOpened, open-outcome, Fitting, fallback-fits}
 use Rattle.run.proofs.BelowLaws.{split}
 use Rattle.run.proofs.Parts.{onSite, between, on-site, SoundRun, parts, sound}
 use Rattle.run.proofs.SetBounds.{carried-lt}
 use Rattle.run.proofs.Whole.{call-whole, open-whole}
 use Rattle.run.proofs.Refine.{popped-free, refine, none-at, opened-site}
 use Rattle.run.proofs.Conserve.{cars-at, call-conserves, opened-cars}
+use Rattle.run.specs.declared.SiteCall.{SiteCall}
+use Rattle.run.specs.declared.SiteCall.the-variants.{Receive, Send, Start}
+use Rattle.run.specs.declared.Opening.{Opening}
+use Rattle.run.specs.Opening.{openCall, openedRun, fallback}
 
 -- The rules: a call adds at most one own event to a zone.
 events-step : (c : Call) (s : Site) (k : ℕ) → stepS c s .zone k .events ≤ s .zone k .events + 1
@@ -174,22 +177,22 @@ popped-lens l a b i j w ha hb hj h =
     rw (lens-popped l a b w ha hb i j hj)
     (on-keeps (λ (n : ℕ). n ≤ places) (eqb i a && eqb j b) (λ n. n - 1) (lenOf l (place i j)) (λ h. omega arith) h)
 
-lens-step : (c : SiteCall) (r : Run) → WholeRun r → SoundRun r → Asks c r → (i j : ℕ) → onSite (r .count) i j ≡ true
-    → lenOf (channelsAfter c r) (place i j) ≤ places
+lens-step : (c : SiteCall) (r : Run) → WholeRun r → SoundRun r → Asks c r → (i j : ℕ) → onSite (countOf (r .head)) i j ≡ true
+    → lenOf (channelsAfter c (actorIn c r) (r .channels)) (place i j) ≤ places
 lens-step (Send from to cars) r w s (p, c, f) i j o =
     pushed-lens (r .channels) (index from) (index to) _ i j (w .channels) (omega (arith, p .from, s .most))
     (omega (arith, p .to, s .most)) f
-    (between (r .count) i j o .near) (s .lens i j o)
+    (between (countOf (r .head)) i j o .near) (s .lens i j o)
 lens-step (Receive from to) r w s (p, c, f) i j o =
     let a = index from in
     let b = index to in
     let hb : b < 8 = omega (arith, p .to, s .most) in
-    let near = between (r .count) i j o .near in
+    let near = between (countOf (r .head)) i j o .near in
     asked-lens (popped (r .channels) (place a b)) b _ _ i j (pop-whole (r .channels) (place a b) (w .channels)) hb
     (popped-free (r .channels) a b _ (p .apart) hb f) near
     (popped-lens (r .channels) a b i j (w .channels) (omega (arith, p .from, s .most)) hb near (s .lens i j o))
 lens-step (Start zone) r w s (p, c, f) i j o =
-    asked-lens (r .channels) (index zone) _ _ i j (w .channels) (omega (arith, s .most)) f (between (r .count) i j o .near)
+    asked-lens (r .channels) (index zone) _ _ i j (w .channels) (omega (arith, s .most)) f (between (countOf (r .head)) i j o .near)
     (s .lens i j o)
 
 -- An accepted call hands back a sound run.
@@ -204,13 +207,13 @@ granted-sound c r w t p =
       fewest = s .fewest;
       most = s .most;
       records = omega (arith, p .room);
-      events = λ i h. subst (λ (x : Site). x .zone i .events ≤ r .records + 1) (sym q)
+      events = λ i h. subst (λ (x : Site). x .zone i .events ≤ r .head .records + 1) (sym q)
           (omega (arith, events-step (callOf c) (siteOf r) i, s .events i h));
-      deps = λ i h. subst (λ (x : Site). x .zone i .deps < 2 ^ r .count) (sym q)
-          (deps-step (r .count) (callOf c) (siteOf r) i (sited c r p) (s .deps i h));
+      deps = λ i h. subst (λ (x : Site). x .zone i .deps < 2 ^ countOf (r .head)) (sym q)
+          (deps-step (countOf (r .head)) (callOf c) (siteOf r) i (sited c r p) (s .deps i h));
       lens = lens-step c r w s (p .asks);
-      sets = λ i j o. subst (λ (x : Site). setsWithin (r .count) (x .channel i j) ≡ true) (sym q)
-          (sets-step (r .count) (callOf c) (siteOf r) (s .most) (sited c r p) (s .deps) (s .sets) i j o);
+      sets = λ i j o. subst (λ (x : Site). setsWithin (countOf (r .head)) (x .channel i j) ≡ true) (sym q)
+          (sets-step (countOf (r .head)) (callOf c) (siteOf r) (s .most) (sited c r p) (s .deps) (s .sets) i j o);
       cars = omega (arith, s .cars);
     }
 
@@ -226,40 +229,34 @@ after-sound [] r w t e = e
 after-sound (c ∷ cs) r w t e = after-sound cs (answer c r .run) (call-whole c r w) (t .1) (call-sound c r w (t .0) e)
 
 -- The run of an opening is sound, also the run that a refused opening hands back.
-opened-facts : (count : ℕ) (stocks : List ℕ) → 2 ≤ count → count ≤ 8 → length stocks ≡ count → sum stocks ≤ mostCars
-    → SoundRun (openedRun count stocks)
+opened-facts : (o : Opening) → Fitting o → SoundRun (openedRun o)
 unfolding openedRun
-opened-facts count stocks few most h c =
-    let r = openedRun count stocks in
-    let q = opened-site count stocks most h in
+opened-facts o f =
+    let r = openedRun o in
+    let q = opened-site o f in
     record {
-      fewest = few;
-      most = most;
+      fewest = f .fewest;
+      most = f .most;
       records = omega arith;
       events = λ i b. subst (λ (x : Site). x .zone i .events ≤ 0) (sym q) (omega arith);
-      deps = λ i b. subst (λ (x : Site). x .zone i .deps < 2 ^ count) (sym q) (pow-lt b);
-      lens = λ i j o. subst (λ (n : ℕ). n ≤ places) (sym (none-at 64 (place i j))) (omega arith);
-      sets = λ i j o. subst (λ (x : Site). setsWithin count (x .channel i j) ≡ true) (sym q) refl;
-      cars = subst (λ (n : ℕ). n ≤ mostCars) (sym (opened-cars count stocks most h) ∙ cars-at r) c;
+      deps = λ i b. subst (λ (x : Site). x .zone i .deps < 2 ^ o .terms .count) (sym q) (pow-lt b);
+      lens = λ i j e. subst (λ (n : ℕ). n ≤ places) (sym (none-at 64 (place i j))) (omega arith);
+      sets = λ i j e. subst (λ (x : Site). setsWithin (o .terms .count) (x .channel i j) ≡ true) (sym q) refl;
+      cars = subst (λ (n : ℕ). n ≤ mostCars) (sym (opened-cars o f) ∙ cars-at r) (f .cars);
     }
 
-opened-sound : (count : ℕ) (stocks : List ℕ) → 2 ≤ count → count ≤ 8 → length stocks ≡ count → sum stocks ≤ mostCars
-    → isSound (openedRun count stocks) ≡ true
-opened-sound count stocks few most h c = sound (openedRun count stocks) (opened-facts count stocks few most h c)
+pub opened-sound : (o : Opening) → Fitting o → isSound (openedRun o) ≡ true
+opened-sound o f = sound (openedRun o) (opened-facts o f)
 
-pub open-sound : (count : ℕ) (stocks : List ℕ) → isSound (openCall count stocks .run) ≡ true
-open-sound count stocks = go (open-outcome count stocks)
+pub open-sound : (o : Opening) → isSound (openCall o .run) ≡ true
+open-sound o = go (open-outcome o)
   where
-    go : Opened count stocks ⊎ NotOpened count stocks → isSound (openCall count stocks .run) ≡ true
-    go (inl o) =
-        ap (λ (x : Answer). isSound (x .run)) (o .result)
-        ∙ opened-sound count stocks (o .fewest) (o .most) (o .lengths) (o .cars)
-    go (inr o) =
-        ap (λ (x : Answer). isSound (x .run)) (o .result)
-        ∙ opened-sound 2 (0 ∷ 0 ∷ []) (omega arith) (omega arith) refl (omega arith)
+    go : Opened o ⊎ NotOpened o → isSound (openCall o .run) ≡ true
+    go (inl p) = ap (λ (x : Answer). isSound (x .run)) (p .result) ∙ opened-sound o (p .fits)
+    go (inr p) = ap (λ (x : Answer). isSound (x .run)) (p .result) ∙ opened-sound fallback fallback-fits
 
 -- Every true run is sound.
-pub true-sound : (count : ℕ) (stocks : List ℕ) (cs : List SiteCall) → AllTyped cs
-    → isSound (after cs (openCall count stocks .run)) ≡ true
-true-sound count stocks cs t =
-    after-sound cs (openCall count stocks .run) (open-whole count stocks) t (open-sound count stocks)
+pub true-sound : (o : Opening) (cs : List SiteCall) → AllTyped cs
+    → isSound (after cs (openCall o .run)) ≡ true
+true-sound o cs t =
+    after-sound cs (openCall o .run) (open-whole o) t (open-sound o)

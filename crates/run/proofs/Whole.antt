@@ -1,4 +1,4 @@
--- Every call, accepted or refused, and the opening hand back a run whose lists have the lengths of its arrays. Assumes nothing.
+-- Every call, accepted or refused, and the opening hand back a run whose lists have the lengths of its arrays.
 use mathlib.Core.Path.{refl, sym, _∙_, subst}
 use mathlib.Core.Logic.{_⊎_, inl, inr}
 use mathlib.Core.List.{List, [], _∷_}
@@ -7,15 +7,18 @@ use lib.ListN.{length-set, length-replicate}
 use Rattle.rules.specs.Questions.{index}
 use Rattle.channel.specs.Channels.{Whole, place, popped}
 use Rattle.channel.proofs.View.{push-whole, pop-whole, requested-whole}
-use Rattle.run.specs.State.{openedRun}
-use Rattle.run.specs.Calls.{openCall}
-use Rattle.run.specs.Lists.{SiteCall, Send, Receive, Start, actor, answer, after}
+use Rattle.run.specs.Calls.{actor, answer, channelsAfter, granted, zoneAfter, actorIn}
+use Rattle.run.specs.Lists.{after}
 use Rattle.run.specs.Claims.{WholeRun}
 use Rattle.run.specs.declared.Run.{Run}
 use Rattle.run.specs.declared.Answer.{Answer}
-use Rattle.run.proofs.Outcome.{zoneAfter, channelsAfter, granted, Passed, Refused, outcome, Opened, NotOpened, open-outcome}
+use Rattle.run.proofs.Outcome.{Passed, Refused, outcome, Opened, NotOpened, open-outcome}
+use Rattle.run.specs.declared.SiteCall.{SiteCall}
+use Rattle.run.specs.declared.SiteCall.the-variants.{Receive, Send, Start}
+use Rattle.run.specs.declared.Opening.{Opening}
+use Rattle.run.specs.Opening.{openCall, openedRun, fallback}
 
-channels-whole : (c : SiteCall) (r : Run) → Whole (r .channels) → Whole (channelsAfter c r)
+channels-whole : (c : SiteCall) (r : Run) → Whole (r .channels) → Whole (channelsAfter c (actorIn c r) (r .channels))
 channels-whole (Send from to cars) r w = push-whole (r .channels) _ _ w
 channels-whole (Receive from to) r w =
     requested-whole (popped (r .channels) (place (index from) (index to))) _ _ _ (pop-whole (r .channels) _ w)
@@ -23,10 +26,10 @@ channels-whole (Start zone) r w = requested-whole (r .channels) _ _ _ w
 
 granted-whole : (c : SiteCall) (r : Run) → WholeRun r → WholeRun (granted c r .run)
 granted-whole c r w = record {
-  zones = length-set (r .zones) (actor c) (zoneAfter c r) ∙ w .zones;
+  zones = length-set (r .head .zones) (actor c) (zoneAfter c (actorIn c r) (r .channels)) ∙ w .zones;
   opening = w .opening;
   channels = channels-whole c r (w .channels);
-  journal = length-set (r .journal) (r .records) _ ∙ w .journal;
+  journal = length-set (r .journal) (r .head .records) _ ∙ w .journal;
 }
 
 pub call-whole : (c : SiteCall) (r : Run) → WholeRun r → WholeRun (answer c r .run)
@@ -40,18 +43,18 @@ pub after-whole : (cs : List SiteCall) (r : Run) → WholeRun r → WholeRun (af
 after-whole [] r w = w
 after-whole (c ∷ cs) r w = after-whole cs (answer c r .run) (call-whole c r w)
 
-pub opened-whole : (count : ℕ) (stocks : List ℕ) → WholeRun (openedRun count stocks)
+pub opened-whole : (o : Opening) → WholeRun (openedRun o)
 unfolding openedRun
-opened-whole count stocks = record {
+opened-whole o = record {
   zones = refl;
   opening = refl;
   channels = (length-replicate {A = ℕ} 1024 0, length-replicate {A = ℕ} 64 0);
   journal = length-replicate {A = ℕ} 1000 0;
 }
 
-pub open-whole : (count : ℕ) (stocks : List ℕ) → WholeRun (openCall count stocks .run)
-open-whole count stocks = go (open-outcome count stocks)
+pub open-whole : (o : Opening) → WholeRun (openCall o .run)
+open-whole o = go (open-outcome o)
   where
-    go : Opened count stocks ⊎ NotOpened count stocks → WholeRun (openCall count stocks .run)
-    go (inl p) = subst (λ (x : Answer). WholeRun (x .run)) (sym (p .result)) (opened-whole count stocks)
-    go (inr p) = subst (λ (x : Answer). WholeRun (x .run)) (sym (p .result)) (opened-whole 2 (0 ∷ 0 ∷ []))
+    go : Opened o ⊎ NotOpened o → WholeRun (openCall o .run)
+    go (inl p) = subst (λ (x : Answer). WholeRun (x .run)) (sym (p .result)) (opened-whole o)
+    go (inr p) = subst (λ (x : Answer). WholeRun (x .run)) (sym (p .result)) (opened-whole fallback)

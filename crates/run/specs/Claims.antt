@@ -7,18 +7,19 @@ use lib.Dec.{leb, ltb}
 use lib.ListN.{length, take, getD}
 use Rattle.rules.specs.Change.{cons-if}
 use Rattle.rules.specs.Limits.{mostZones, mostRecords, places}
-use Rattle.rules.specs.Questions.{Question, question, refusal, index}
+use Rattle.rules.specs.Questions.{Question, question, refusal}
 use Rattle.channel.specs.Channels.{Whole}
-use Rattle.run.specs.Layout.{sendRecord, receiveRecord, startRecord}
-use Rattle.run.specs.State.{stocks, carsOnChannels}
-use Rattle.run.specs.Calls.{isPair}
-use Rattle.run.specs.Lists.{SiteCall, Send, Receive, Start, answer, isAccepted}
+use Rattle.run.specs.State.{countOf, stocks, carsOnChannels}
+use Rattle.run.specs.Calls.{isPair, recordOf, answer}
+use Rattle.run.specs.Lists.{isAccepted}
 use Rattle.run.specs.declared.Run.{Run}
+use Rattle.run.specs.declared.SiteCall.{SiteCall}
+use Rattle.run.specs.declared.SiteCall.the-variants.{Send, Receive, Start}
 
 -- The lists of a run have the lengths of its arrays: true of every value of the type.
 pub record WholeRun (r : Run) : Type 0 where
-  pub zones : length (r .zones) ≡ mostZones
-  pub opening : length (r .opening) ≡ mostZones
+  pub zones : length (r .head .zones) ≡ mostZones
+  pub opening : length (r .head .opening .stocks) ≡ mostZones
   pub channels : Whole (r .channels)
   pub journal : length (r .journal) ≡ mostRecords
 
@@ -34,7 +35,7 @@ AllTyped (c ∷ cs) = Typed c × AllTyped cs
 
 -- "stocks plus cars on lines" of a run.
 abbrev pub allCars : Run → ℕ
-allCars r = stocks (r .count) (r .zones) + carsOnChannels (r .count) (r .channels)
+allCars r = stocks (r .head) + carsOnChannels (countOf (r .head)) (r .channels)
 
 -- What a sound run answers to a hand-over, by the zone count, the number of records, the sender's stock and the channel's length
 -- alone: whether a recording is started is not asked.
@@ -49,29 +50,19 @@ sendQuestions count records stock len from to cars =
 abbrev pub sendRefusal : (count records stock len from to cars : ℕ) → ℕ
 sendRefusal count records stock len from to cars = refusal (sendQuestions count records stock len from to cars)
 
--- The number is one of the list.
-abbrev pub Among : ℕ → List ℕ → Type 0
-Among n [] = ⊥
-Among n (x ∷ xs) = (n ≡ x) ⊎ Among n xs
-
 -- The numbers that a call may answer: 0 and those of its list.
 abbrev pub answers : SiteCall → List ℕ
 answers (Send from to cars) = 0 ∷ 1 ∷ 5 ∷ 6 ∷ 7 ∷ 8 ∷ []
 answers (Receive from to) = 0 ∷ 1 ∷ 5 ∷ 6 ∷ 9 ∷ 10 ∷ []
 answers (Start zone) = 0 ∷ 1 ∷ 5 ∷ 6 ∷ 11 ∷ 10 ∷ []
 
--- The record word of a call, and those of the accepted calls of a list, in order.
-abbrev pub recordOf : SiteCall → ℕ
-recordOf (Send from to cars) = sendRecord (index from) (index to) cars
-recordOf (Receive from to) = receiveRecord (index from) (index to)
-recordOf (Start zone) = startRecord (index zone)
-
+-- The record words of the accepted calls of a list, in order.
 abbrev pub acceptedRecords : List SiteCall → Run → List ℕ
 acceptedRecords [] r = []
 acceptedRecords (c ∷ cs) r = cons-if (isAccepted c r) (recordOf c) (acceptedRecords cs (answer c r .run))
 
 -- The records of a run are the words ws, and the rest of its journal is 0.
 pub record Holds (r : Run) (ws : List ℕ) : Type 0 where
-  pub number : r .records ≡ length ws
-  pub words : take (r .records) (r .journal) ≡ ws
-  pub rest : (k : ℕ) → r .records ≤ k → getD (r .journal) k 0 ≡ 0
+  pub number : r .head .records ≡ length ws
+  pub words : take (r .head .records) (r .journal) ≡ ws
+  pub rest : (k : ℕ) → r .head .records ≤ k → getD (r .journal) k 0 ≡ 0

@@ -8,33 +8,17 @@ use Rattle.rules.specs.Change.{cons-if}
 use Rattle.rules.specs.Questions.{index}
 use Rattle.rules.specs.Site.{Item, message, request, Call, send, receive, start}
 use Rattle.rules.specs.Zone.{isMarked}
-use Rattle.run.specs.Calls.{sendCall, receiveCall, startCall}
+use Rattle.run.specs.Calls.{answer}
 use Rattle.run.specs.Model.{siteOf}
 use Rattle.run.specs.declared.Run.{Run}
-use Rattle.run.specs.declared.Answer.{Answer}
-
--- A call with any arguments, zones by number.
-pub data SiteCall : Type 0 where
-  Send : (from to cars : ℕ) → SiteCall
-  Receive : (from to : ℕ) → SiteCall
-  Start : (zone : ℕ) → SiteCall
-
-abbrev pub answer : SiteCall → Run → Answer
-answer (Send from to cars) r = sendCall r from to cars
-answer (Receive from to) r = receiveCall r from to
-answer (Start zone) r = startCall r zone
+use Rattle.run.specs.declared.SiteCall.{SiteCall}
+use Rattle.run.specs.declared.SiteCall.the-variants.{Send, Receive, Start}
 
 -- The same call with zones by index, as the rules have it.
 abbrev pub callOf : SiteCall → Call
 callOf (Send from to cars) = send (index from) (index to) cars
 callOf (Receive from to) = receive (index from) (index to)
 callOf (Start zone) = start (index zone)
-
--- The index of the zone that acts in a call: the sender, the receiver, the zone that starts.
-abbrev pub actor : SiteCall → ℕ
-actor (Send from to cars) = index from
-actor (Receive from to) = index to
-actor (Start zone) = index zone
 
 -- "An accepted call is one that answered 0."
 abbrev pub isAccepted : SiteCall → Run → Bool

@@ -3,20 +3,15 @@ use mathlib.Core.Bool.{cond, _&&_}
 use mathlib.Core.List.{List, []}
 use Prim.Native.Nat.{ℕ}
 use lib.Dec.{ltb}
-use lib.ListN.{getD}
 use Rattle.rules.specs.Limits.{mostZones}
 use Rattle.rules.specs.Site.{Site}
 use Rattle.rules.specs.Zone.{opened}
-use Rattle.channel.specs.Channels.{place, itemsOn}
-use Rattle.run.specs.State.{zoneAt, isChannel}
+use Rattle.channel.specs.Channels.{isChannel, place, itemsOn}
+use Rattle.run.specs.State.{countOf, zoneAt}
 use Rattle.run.specs.declared.Run.{Run}
 
 abbrev pub siteOf : Run → Site
 siteOf r = record {
-  zone = λ k. cond (ltb k (r .count)) (zoneAt (r .zones) k) (opened k 0);
-  channel = λ i j. cond (ltb j mostZones && isChannel (r .count) (place i j)) (itemsOn (r .channels) (place i j)) [];
+  zone = λ k. cond (ltb k (countOf (r .head))) (zoneAt (r .head) k) (opened k 0);
+  channel = λ i j. cond (ltb j mostZones && isChannel (countOf (r .head)) (place i j)) (itemsOn (r .channels) (place i j)) [];
 }
-
--- The opening stocks by index.
-abbrev pub stocksOf : List ℕ → ℕ → ℕ
-stocksOf stocks k = getD stocks k 0

@@ -1,18 +1,22 @@
--- What one word more adds to the comparison of a channel. Assumes nothing.
-use mathlib.Core.Path.{_≡_, _∙_, ap}
-use mathlib.Core.Bool.{Bool, _&&_}
+-- What one word more adds to the comparison of a channel; that empty channels are the same, and nothing is compared at a place that the
+-- site has no channel at.
+use mathlib.Core.Path.{_≡_, refl, sym, _∙_, ap}
+use mathlib.Core.Bool.{Bool, true, false, _&&_, _||_, not, and-true, and-assoc}
 use mathlib.Core.List.{List, [], _∷_}
-use Prim.Native.Nat.{ℕ, zero, suc, _+_, _*_, _<_, min}
+use Prim.Native.Nat.{ℕ, zero, suc, _+_, _*_, _<_, _≤_, min}
 use native.Mathlib.Numerals.{add-one}
 use native.Mathlib.Nat.{not-suc-le-zero, le-of-suc-le-suc}
 use native.Mathlib.Omega.{arith}
 use borrow.Author.Tests.{eq-eqb}
 use lib.Dec.{eqb}
-use lib.ListN.{length, getD, take, length-take, length-drop}
-use Rattle.channel.specs.Channels.{wordsOn, lenOf}
+use lib.ListN.{length, getD, take}
+use Rattle.rules.specs.Below.{allBelow}
+use Rattle.channel.specs.Channels.{isChannel, place, wordsOn, lenOf}
 use Rattle.channel.specs.declared.Channels.{Channels}
-use Rattle.scan.proofs.Laws.{and-true, and-assoc, word-at, all-words}
+use Rattle.channel.proofs.Places.{word-at, words-length, all-words, no-channel, no-channel-to}
+use Rattle.run.proofs.BelowLaws.{all-end}
 use Rattle.journal.specs.Writing.{sameWords, sameChannel}
+use Rattle.same.specs.InnerAt.{sameAt, sameFrom}
 
 words-more : (xs ys : List ℕ) (p : ℕ) → p < length xs → p < length ys
     → sameWords (take (suc p) xs) (take (suc p) ys) ≡ sameWords (take p xs) (take p ys) && eqb (getD xs p 0) (getD ys p 0)
@@ -21,10 +25,7 @@ words-more (x ∷ xs) [] p h k = absurd (not-suc-le-zero k)
 words-more (x ∷ xs) (y ∷ ys) zero h k = and-true _
 words-more (x ∷ xs) (y ∷ ys) (suc p) h k =
     ap (λ (b : Bool). eqb x y && b) (words-more xs ys p (le-of-suc-le-suc h) (le-of-suc-le-suc k))
-    ∙ and-assoc (eqb x y) (sameWords (take p xs) (take p ys)) (eqb (getD xs p 0) (getD ys p 0))
-
-words-length : (l : Channels) (k : ℕ) → k < 64 → length (l .items) ≡ 1024 → length (wordsOn l k) ≡ min (lenOf l k) 16
-words-length l k h e = simp (length-take, length-drop) (omega arith)
+    ∙ sym (and-assoc (eqb x y) (sameWords (take p xs) (take p ys)) (eqb (getD xs p 0) (getD ys p 0)))
 
 -- Two lists of channels of 1,024 words each, with the same length at k.
 module _ (l m : Channels) (k : ℕ) (h : k < 64) (el : length (l .items) ≡ 1024) (em : length (m .items) ≡ 1024) (e : lenOf l k ≡ lenOf m k) where
@@ -32,8 +33,8 @@ module _ (l m : Channels) (k : ℕ) (h : k < 64) (el : length (l .items) ≡ 102
       → s && eqb (getD (l .items) (k * 16 + p) 0) (getD (m .items) (k * 16 + p) 0)
       ≡ sameWords (take (p + 1) (wordsOn l k)) (take (p + 1) (wordsOn m k))
   one-more p s b f =
-      let x = word-at l k p (omega arith) (omega arith) in
-      let y = word-at m k p (omega arith) (omega arith) in
+      let x = word-at l k p b in
+      let y = word-at m k p (omega arith) in
       rw (add-one p, words-more (wordsOn l k) (wordsOn m k) p (omega (arith, words-length l k h el)) (omega (arith, words-length m k h em)), x, y, f)
 
   pub all-same : (p : ℕ) (s : Bool) → p ≡ min (lenOf l k) 16 → s ≡ sameWords (take p (wordsOn l k)) (take p (wordsOn m k)) → s ≡ sameChannel l m k
@@ -42,3 +43,20 @@ module _ (l m : Channels) (k : ℕ) (h : k < 64) (el : length (l .items) ≡ 102
       let x : take p (wordsOn l k) ≡ wordsOn l k = rw b (all-words l k) in
       let y : take p (wordsOn m k) ≡ wordsOn m k = rw (b, e) (all-words m k) in
       rw (eq-eqb _ _ e) (f ∙ rw (x, y))
+
+or-true : (b : Bool) → not b || true ≡ true
+or-true true = refl
+or-true false = refl
+
+module _ (count : ℕ) (l m : Channels) where
+  pub empty-same : (k : ℕ) → lenOf l k ≡ 0 → lenOf m k ≡ 0 → sameAt count l m k ≡ true
+  unfolding sameChannel
+  empty-same k e f = rw (e, f) (or-true (isChannel count k))
+
+  -- No channel stands behind those of the last zone, and none goes to a zone behind the last one.
+  pub same-end : count ≤ 8 → allBelow 64 (sameAt count l m) ≡ allBelow (count * 8) (sameAt count l m)
+  same-end h = all-end (count * 8) 64 (sameAt count l m) (omega arith) (λ i b d. rw (no-channel count i b))
+
+  pub same-to : (from : ℕ) → count ≤ 8 → sameFrom count l m from ≡ allBelow count (λ j. sameAt count l m (place from j))
+  unfolding sameFrom
+  same-to from h = all-end count 8 (λ j. sameAt count l m (place from j)) h (λ j b d. rw (no-channel-to count from j b d))

@@ -1,9 +1,9 @@
 // Whether two states are the same over the zones and channels of a site: what the fuller form of question 1 compares.
 ghost use mathlib.Core.Path.{_≡_};
-ghost use mathlib.Core.Bool.{_&&_};
-ghost use Prim.Native.Nat.{_<_, _≤_, min};
+ghost use Prim.Native.Nat.{_<_, _≤_};
 ghost use lib.ListN.{length};
 ghost use Rattle.channel.specs.Channels.{channelsAs};
+ghost use Rattle.run.specs.State.{countOf};
 ghost use Rattle.journal.specs.Writing.{
   sameSaved,
   sameCheckpoint,
@@ -11,10 +11,13 @@ ghost use Rattle.journal.specs.Writing.{
   sameZones,
   sameChannel,
   sameChannels,
+  sameState,
 };
+ghost use Rattle.same.specs.InnerAt.{sameAt, sameFrom};
 use rules::Checkpoint;
 use rules::Local;
 use rules::Saved;
+use run::Head;
 use run::Run;
 
 // Whether two checkpoints keep the same stock and events.
@@ -48,7 +51,7 @@ fn same_checkpoint(a: Checkpoint, b: Checkpoint) -> bool
 }
 
 // Whether two zones are the same in stock, dependency set, own events and checkpoint.
-pub fn same_local(a: Local, b: Local) -> bool
+fn same_local(a: Local, b: Local) -> bool
     ensures { λ r. ⌜ r ≡ sameLocal a b ⌝ }
 {
     let p = a.checkpoint;
@@ -57,30 +60,22 @@ pub fn same_local(a: Local, b: Local) -> bool
     (a.stock == b.stock) & (a.deps == b.deps) & (a.events == b.events) & marks
 }
 
-// Whether the zones of a site of `count` zones are the same. The caller has asked question 1, so the site has at most 8.
-pub fn same_zones(count: u8, a: [Local; 8], b: [Local; 8]) -> bool
+// Whether the zones of a site of `count` zones are the same. A site has at most 8.
+fn same_zones(count: u8, a: Head, b: Head) -> bool
     requires { ⌜ count ≤ 8 ⌝ }
     ensures { λ r. ⌜ r ≡ sameZones count a b ⌝ }
 {
+    let xs = a.zones;
+    let ys = b.zones;
     let mut same = true;
     let mut i = 0;
     while i < count as usize {
-        let x = a[i];
-        let y = b[i];
+        let x = xs[i];
+        let y = ys[i];
         same = same & same_local(x, y);
         i += 1;
     }
     same
-}
-
-// The places that are looked at on a channel of this length: no more than it has.
-fn looked_at(len: u8) -> usize
-    ensures { λ n. ⌜ n ≡ min len 16 ⌝ }
-{
-    if 16 < len {
-        return 16;
-    }
-    len as usize
 }
 
 // Whether channel k holds the same words. That the words are 1,024 is true of every array.
@@ -101,7 +96,7 @@ fn same_channel(
     if len != blens[k] {
         return false;
     }
-    let n = looked_at(len);
+    let n = channel::looked_at(len);
     let mut same = true;
     let mut p = 0;
     while p < n {
@@ -112,47 +107,99 @@ fn same_channel(
     same
 }
 
-// Whether the channels of a site of `count` zones hold the same words. That the words are 1,024 is true of every array.
-pub fn same_channels(
+// One place for a channel: nothing is asked of a channel that the site does not have.
+fn same_at(
+    count: u8,
+    a: &[u16; 1024],
+    alens: &[u8; 64],
+    b: &[u16; 1024],
+    blens: &[u8; 64],
+    k: usize,
+) -> bool
+    requires { ⌜ (k < 64) × (length (now a) ≡ 1024) × (length (now b) ≡ 1024) ⌝ }
+    ensures { λ r. ⌜
+        r ≡ sameAt count (channelsAs (now (a .entry)) (now (alens .entry)))
+        (channelsAs (now (b .entry)) (now (blens .entry))) k
+        ⌝ }
+{
+    if !channel::is_channel(count, k) {
+        return true;
+    }
+    same_channel(a, alens, b, blens, k)
+}
+
+// The places for channels from one zone. Most channels are empty in both, so the lengths are looked at first.
+fn same_from(
+    count: u8,
+    a: &[u16; 1024],
+    alens: &[u8; 64],
+    b: &[u16; 1024],
+    blens: &[u8; 64],
+    from: usize,
+) -> bool
+    requires { ⌜ (from < 8) × (count ≤ 8) × (length (now a) ≡ 1024) × (length (now b) ≡ 1024) ⌝ }
+    ensures { λ r. ⌜
+        r ≡ sameFrom count (channelsAs (now (a .entry)) (now (alens .entry)))
+        (channelsAs (now (b .entry)) (now (blens .entry))) from
+        ⌝ }
+{
+    let mut same = true;
+    let mut to = 0;
+    while to < count as usize {
+        let k = channel::place(from, to);
+        let empty = (alens[k] == 0) & (blens[k] == 0);
+        if !empty {
+            same = same & same_at(count, a, alens, b, blens, k);
+        }
+        to += 1;
+    }
+    same
+}
+
+// Whether the channels of a site of `count` zones hold the same words: no zone behind the last one sends on a channel. The lengths of all
+// channels from a zone are looked at first.
+fn same_channels(
     count: u8,
     a: &[u16; 1024],
     alens: &[u8; 64],
     b: &[u16; 1024],
     blens: &[u8; 64],
 ) -> bool
-    requires { ⌜ (length (now a) ≡ 1024) × (length (now b) ≡ 1024) ⌝ }
+    requires { ⌜ (count ≤ 8) × (length (now a) ≡ 1024) × (length (now b) ≡ 1024) ⌝ }
     ensures { λ r. ⌜
         r ≡ sameChannels count (channelsAs (now (a .entry)) (now (alens .entry)))
         (channelsAs (now (b .entry)) (now (blens .entry)))
         ⌝ }
 {
     let mut same = true;
-    let mut k = 0;
-    while k < 64 {
-        let here = scan::is_channel(count, k);
-        let equal = same_channel(a, alens, b, blens, k);
-        same = same & (!here | equal);
-        k += 1;
+    let mut from = 0;
+    while from < count as usize {
+        let none = channel::all_empty(alens, from);
+        let empty = none & channel::all_empty(blens, from);
+        if !empty {
+            same = same & same_from(count, a, alens, b, blens, from);
+        }
+        from += 1;
     }
     same
 }
 
 // Whether a run has the state of another one, over the zones and channels of the other's site, which has at most 8 zones.
 pub fn same_state(a: Run, b: Run) -> bool
-    requires { ⌜ b .count ≤ 8 ⌝ }
-    ensures { λ r. ⌜
-        r ≡ (sameZones (b .count) (a .zones) (b .zones) && sameChannels (b .count) (a .channels) (b .channels))
-        ⌝ }
+    requires { ⌜ countOf (b .head) ≤ 8 ⌝ }
+    ensures { λ r. ⌜ r ≡ sameState a b ⌝ }
 {
-    let azones = a.zones;
+    let ahead = a.head;
     let achannels = a.channels;
     let aitems = achannels.items;
     let alens = achannels.lens;
-    let bzones = b.zones;
+    let bhead = b.head;
     let bchannels = b.channels;
     let bitems = bchannels.items;
     let blens = bchannels.lens;
-    let zones = same_zones(b.count, azones, bzones);
-    let channels = same_channels(b.count, &aitems, &alens, &bitems, &blens);
+    let opening = bhead.opening;
+    let terms = opening.terms;
+    let zones = same_zones(terms.count, ahead, bhead);
+    let channels = same_channels(terms.count, &aitems, &alens, &bitems, &blens);
     zones & channels
 }

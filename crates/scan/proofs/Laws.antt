@@ -1,46 +1,38 @@
--- What one item more adds to the scan of a channel, and that no channel stands behind those of the last zone. Assumes nothing.
+-- What one item more adds to the scan of a channel; that an empty channel adds nothing, nor a place that the site has no channel at.
 use mathlib.Core.Path.{_≡_, refl, sym, _∙_, ap}
-use mathlib.Core.Bool.{Bool, true, false, _&&_}
-use mathlib.Core.Logic.{inl, inr}
+use mathlib.Core.Bool.{Bool, true, false, _&&_, _||_, not, cond, and-true, and-assoc}
 use mathlib.Core.List.{List, [], _∷_, map}
-use Prim.Native.Nat.{ℕ, zero, suc, _+_, _*_, _/_, _^_, _<_, _≤_, min}
+use Prim.Native.Nat.{ℕ, zero, suc, _+_, _*_, _^_, _<_, _≤_, min}
 use native.Mathlib.Numerals.{add-one}
 use native.Mathlib.Omega.{arith}
-use borrow.Author.Tests.{lt-ltb, le-ltb}
-use lib.Dec.{ltb}
-use lib.ListN.{getD, take, drop, length-take}
+use borrow.Author.Tests.{lt-ltb}
+use lib.Dec.{leb, ltb}
+use lib.ListN.{getD, take}
 use lib.Pow.{pow-pos}
-use lib.Seq.{getD-take, getD-drop, take-all}
+use Rattle.rules.specs.Below.{allBelow, sumBelow}
 use Rattle.rules.specs.Sets.{within}
 use Rattle.channel.specs.Words.{itemOf, setIn, carsIn}
-use Rattle.channel.specs.Channels.{wordsOn, lenOf}
+use Rattle.channel.specs.Channels.{isChannel, place, lenOf, wordsOn, itemsOn}
 use Rattle.channel.specs.declared.Channels.{Channels}
-use Rattle.rules.specs.Below.{allBelow, anyBelow, sumBelow}
-use Rattle.rules.proofs.Tests.{Same, same?}
-use Rattle.run.specs.State.{setsWithin, carsOf, isChannel}
-use Rattle.scan.specs.At.{soundAt, carsAt}
-
-pub and-true : (b : Bool) → b && true ≡ b
-and-true true = refl
-and-true false = refl
-
-pub and-assoc : (a b c : Bool) → a && (b && c) ≡ (a && b) && c
-and-assoc true b c = refl
-and-assoc false b c = refl
+use Rattle.channel.proofs.Places.{word-at, all-words, no-channel, no-channel-to}
+use Rattle.run.specs.State.{setsWithin, carsOf, channelSound}
+use Rattle.run.specs.declared.Terms.{Terms}
+use Rattle.run.proofs.BelowLaws.{all-end, sum-end}
+use Rattle.scan.specs.InnerAt.{soundAt, carsAt, soundFrom, carsFrom}
 
 nobody-within : (count : ℕ) → ltb 0 (2 ^ count) ≡ true
 nobody-within count = lt-ltb 0 (2 ^ count) (pow-pos count)
 
-pub sets-more : (count : ℕ) (ws : List ℕ) (p : ℕ)
+sets-more : (count : ℕ) (ws : List ℕ) (p : ℕ)
     → setsWithin count (map itemOf (take (suc p) ws)) ≡ setsWithin count (map itemOf (take p ws)) && within (setIn (itemOf (getD ws p 0))) count
 unfolding itemOf
 sets-more count [] zero = sym (nobody-within count)
 sets-more count [] (suc p) = sym (nobody-within count)
 sets-more count (w ∷ ws) zero = and-true _
 sets-more count (w ∷ ws) (suc p) = ap (λ (b : Bool). within (setIn (itemOf w)) count && b) (sets-more count ws p)
-    ∙ and-assoc (within (setIn (itemOf w)) count) (setsWithin count (map itemOf (take p ws))) (within (setIn (itemOf (getD ws p 0))) count)
+    ∙ sym (and-assoc (within (setIn (itemOf w)) count) (setsWithin count (map itemOf (take p ws))) (within (setIn (itemOf (getD ws p 0))) count))
 
-pub cars-more : (ws : List ℕ) (p : ℕ)
+cars-more : (ws : List ℕ) (p : ℕ)
     → carsOf (map itemOf (take (suc p) ws)) ≡ carsOf (map itemOf (take p ws)) + carsIn (itemOf (getD ws p 0))
 unfolding itemOf
 cars-more [] zero = refl
@@ -48,72 +40,55 @@ cars-more [] (suc p) = refl
 cars-more (w ∷ ws) zero = omega arith
 cars-more (w ∷ ws) (suc p) = let h = cars-more ws p in omega arith
 
--- The word at a place of a channel.
-pub word-at : (l : Channels) (k p : ℕ) → p < 16 → p < lenOf l k → getD (wordsOn l k) p 0 ≡ getD (l .items) (k * 16 + p) 0
-word-at l k p h n = getD-take (lenOf l k) (take 16 (drop (k * 16) (l .items))) p 0 n ∙ getD-take 16 (drop (k * 16) (l .items)) p 0 h ∙ getD-drop (k * 16) (l .items) p 0
-
--- All words of a channel are those that are looked at.
-pub all-words : (l : Channels) (k : ℕ) → take (min (lenOf l k) 16) (wordsOn l k) ≡ wordsOn l k
-all-words l k =
-    take-all (min (lenOf l k) 16) (wordsOn l k)
-    (omega (arith, length-take (lenOf l k) (take 16 (drop (k * 16) (l .items))), length-take 16 (drop (k * 16) (l .items))))
-
 -- One item more of a channel, after p items.
 module _ (l : Channels) (k p : ℕ) (h : p < min (lenOf l k) 16) where
   pub sound-item : (count : ℕ) (b s t : Bool) → s ≡ b && setsWithin count (map itemOf (take p (wordsOn l k)))
       → t ≡ within (setIn (itemOf (getD (l .items) (k * 16 + p) 0))) count
       → s && t ≡ b && setsWithin count (map itemOf (take (p + 1) (wordsOn l k)))
-  sound-item count b s t e f =
-      let w = word-at l k p (omega arith) (omega arith) in
-      rw (add-one p, sets-more count (wordsOn l k) p, w, e, f) (sym (and-assoc b _ _))
+  sound-item count b s t e f = rw (add-one p, sets-more count (wordsOn l k) p, word-at l k p h, e, f) (and-assoc b _ _)
 
   pub cars-item : (n m : ℕ) → n ≡ carsOf (map itemOf (take p (wordsOn l k))) → m ≡ carsIn (itemOf (getD (l .items) (k * 16 + p) 0))
       → n + m ≡ carsOf (map itemOf (take (p + 1) (wordsOn l k)))
-  cars-item n m e f =
-      let w = word-at l k p (omega arith) (omega arith) in
-      rw (add-one p, cars-more (wordsOn l k) p, w, e, f)
+  cars-item n m e f = rw (add-one p, cars-more (wordsOn l k) p, word-at l k p h, e, f)
 
--- What is true, or 0, from n on adds nothing to a test or a sum.
-pub all-end : (n m : ℕ) (f : ℕ → Bool) → n ≤ m → ((i : ℕ) → n ≤ i → f i ≡ true) → allBelow m f ≡ allBelow n f
-all-end n zero f h t =
-    let e : zero ≡ n = omega arith in
-    ap (λ (k : ℕ). allBelow k f) e
-all-end n (suc m) f h t = go (λ b. all-end n m f b t) (same? n (suc m))
-  where
-    go : (n ≤ m → allBelow m f ≡ allBelow n f) → Same n (suc m) → allBelow m f && f m ≡ allBelow n f
-    go more (inl e) = sym (ap (λ (k : ℕ). allBelow k f) (e .0))
-    go more (inr e) = rw (more (omega (arith, e .0)), t m (omega (arith, e .0))) (and-true _)
+-- All of them, after as many as there are.
+pub sound-items : (t : Terms) (l : Channels) (k p : ℕ) → p ≡ min (lenOf l k) 16 → (s : Bool)
+    → s ≡ leb (lenOf l k) 16 && setsWithin (t .count) (map itemOf (take p (wordsOn l k))) → s ≡ channelSound t l k
+unfolding channelSound
+sound-items t l k p e s f = f ∙ rw (e, all-words l k)
 
-pub sum-end : (n m : ℕ) (f : ℕ → ℕ) → n ≤ m → ((i : ℕ) → n ≤ i → f i ≡ 0) → sumBelow m f ≡ sumBelow n f
-sum-end n zero f h t =
-    let e : zero ≡ n = omega arith in
-    ap (λ (k : ℕ). sumBelow k f) e
-sum-end n (suc m) f h t = go (λ b. sum-end n m f b t) (same? n (suc m))
-  where
-    go : (n ≤ m → sumBelow m f ≡ sumBelow n f) → Same n (suc m) → sumBelow m f + f m ≡ sumBelow n f
-    go more (inl e) = sym (ap (λ (k : ℕ). sumBelow k f) (e .0))
-    go more (inr e) =
-        let s = more (omega (arith, e .0)) in
-        let z = t m (omega (arith, e .0)) in
-        omega (arith, s, z)
+pub cars-items : (l : Channels) (k p : ℕ) → p ≡ min (lenOf l k) 16 → (n : ℕ) → n ≡ carsOf (map itemOf (take p (wordsOn l k)))
+    → n ≡ carsOf (itemsOn l k)
+cars-items l k p e n f = f ∙ rw (e, all-words l k)
 
--- A place behind the channels of the last zone has no channel.
-no-channel : (count k : ℕ) → 8 * count ≤ k → isChannel count k ≡ false
-unfolding isChannel
-no-channel count k h = rw (le-ltb (k / 8) count (omega arith))
+-- An empty channel is sound and holds no cars.
+or-true : (b : Bool) → not b || true ≡ true
+or-true true = refl
+or-true false = refl
 
-pub sound-end : (count : ℕ) (l : Channels) → count ≤ 8 → allBelow 64 (soundAt count l) ≡ allBelow (8 * count) (soundAt count l)
-sound-end count l h = all-end (8 * count) 64 (soundAt count l) (omega arith) (λ i b. rw (no-channel count i b))
+cond-same : (b : Bool) (n : ℕ) → cond b n n ≡ n
+cond-same true n = refl
+cond-same false n = refl
 
-pub cars-end : (count : ℕ) (l : Channels) → count ≤ 8 → sumBelow 64 (carsAt count l) ≡ sumBelow (8 * count) (carsAt count l)
-cars-end count l h = sum-end (8 * count) 64 (carsAt count l) (omega arith) (λ i b. rw (no-channel count i b))
+module _ (t : Terms) (l : Channels) where
+  pub empty-sound : (k : ℕ) → lenOf l k ≡ 0 → soundAt t l k ≡ true
+  unfolding channelSound
+  empty-sound k e = rw e (or-true (isChannel (t .count) k))
 
--- The tests and sums over the numbers below a reached end.
-pub all-to : (f : ℕ → Bool) {i n : ℕ} → i ≡ n → allBelow i f ≡ allBelow n f
-all-to f e = ap (λ (m : ℕ). allBelow m f) e
+  pub empty-cars : (k : ℕ) → lenOf l k ≡ 0 → carsAt t l k ≡ 0
+  empty-cars k e = rw e (cond-same (isChannel (t .count) k) 0)
 
-pub sum-to : (f : ℕ → ℕ) {i n : ℕ} → i ≡ n → sumBelow i f ≡ sumBelow n f
-sum-to f e = ap (λ (m : ℕ). sumBelow m f) e
+  -- No channel stands behind those of the last zone, and none goes to a zone behind the last one.
+  pub sound-end : t .count ≤ 8 → allBelow 64 (soundAt t l) ≡ allBelow (t .count * 8) (soundAt t l)
+  sound-end h = all-end (t .count * 8) 64 (soundAt t l) (omega arith) (λ i b d. rw (no-channel (t .count) i b))
 
-pub any-to : (f : ℕ → Bool) {i n : ℕ} → i ≡ n → anyBelow i f ≡ anyBelow n f
-any-to f e = ap (λ (m : ℕ). anyBelow m f) e
+  pub cars-end : t .count ≤ 8 → sumBelow 64 (carsAt t l) ≡ sumBelow (t .count * 8) (carsAt t l)
+  cars-end h = sum-end (t .count * 8) 64 (carsAt t l) (omega arith) (λ i b d. rw (no-channel (t .count) i b))
+
+  pub sound-to : (from : ℕ) → t .count ≤ 8 → soundFrom t l from ≡ allBelow (t .count) (λ j. soundAt t l (place from j))
+  unfolding soundFrom
+  sound-to from h = all-end (t .count) 8 (λ j. soundAt t l (place from j)) h (λ j b d. rw (no-channel-to (t .count) from j b d))
+
+  pub cars-to : (from : ℕ) → t .count ≤ 8 → carsFrom t l from ≡ sumBelow (t .count) (λ j. carsAt t l (place from j))
+  unfolding carsFrom
+  cars-to from h = sum-end (t .count) 8 (λ j. carsAt t l (place from j)) h (λ j b d. rw (no-channel-to (t .count) from j b d))

@@ -1,28 +1,36 @@
--- `opening::run_of` meets its contract; each read and each call is allowed by search. Assumes nothing.
+-- `opening::run_of` meets its contract; each read and each call is allowed by search.
 use mathlib.Core.Path.{_≡_, sym}
 use lib.ListN.{length}
-use Rattle.run.specs.State.{openedRun}
+use Rattle.run.specs.Opening.{openedRun}
 use Rattle.opening.proofs.Laws.{all-places}
 use borrow.Author.Needs.{needs}
 use Rattle.opening.proofs.run_of.Statement.{statement}
 use Rattle.opening.proofs.run_of.Tie as tie
 
+eight : (c : tie.After-stocks) → length (c .before .args .opening .stocks) ≡ 8
+eight c = search needs
+
 returns : tie.Need-returns
 unfolding openedRun
 returns c =
-    let b = c .before .before .before .before .before .before .before in
-    let xs = b .before .args .t2 in
-    let e : length xs ≡ 8 = search needs in
+    let c7 = c .before in
+    let c6 = c7 .before in
+    let c5 = c6 .before in
+    let c4 = c5 .before in
+    let c3 = c4 .before in
+    let c2 = c3 .before in
+    let c1 = c2 .before in
+    let c0 = c1 .before in
     rw (
-      b .«open» .ensures,
-      c .before .before .before .before .before .before .open2 .ensures,
-      c .before .before .before .before .before .open3 .ensures,
-      c .before .before .before .before .open4 .ensures,
-      c .before .before .before .open5 .ensures,
-      c .before .before .open6 .ensures,
-      c .before .open7 .ensures,
+      c1 .«open» .ensures,
+      c2 .open2 .ensures,
+      c3 .open3 .ensures,
+      c4 .open4 .ensures,
+      c5 .open5 .ensures,
+      c6 .open6 .ensures,
+      c7 .open7 .ensures,
       c .open8 .ensures,
-      sym (all-places xs e),
+      sym (all-places (c0 .before .args .opening .stocks) (eight c0)),
     )
 
 pub run-of-spec : {M : Type 1} → statement M

@@ -1,4 +1,4 @@
--- `same::same_channel` meets its contract, by the words before the next one. Assumes nothing.
+-- `same::same_channel` meets its contract, by the words before the next one.
 use mathlib.Core.Path.{_≡_, refl}
 use Prim.Native.Nat.{_-_, _≤_}
 use native.Mathlib.Omega.{arith}
@@ -17,6 +17,16 @@ Inv-loop a alens b blens k len n same₀ p₀ same p =
 
 abbrev μ-loop : tie.MeasureT-loop
 μ-loop a alens b blens k len n same₀ p₀ same p = n - p
+
+-- The start and the lengths' test as seen from the loop, and the loop's test from the end of its body.
+abbrev equal : tie.At-loop Inv-loop μ-loop → tie.Else1 Inv-loop μ-loop
+equal c = c .before .before
+
+abbrev start : tie.At-loop Inv-loop μ-loop → tie.Start Inv-loop μ-loop
+start c = equal c .before .before .before
+
+abbrev tested : tie.After-same2 Inv-loop μ-loop → tie.In-loop Inv-loop μ-loop
+tested c = c .before .before
 
 element-copy-out-len : tie.Need-element-copy-out-len Inv-loop μ-loop
 element-copy-out-len c = search needs
@@ -60,24 +70,24 @@ loop-less c = search needs
 
 loop-again : tie.Need-loop-again Inv-loop μ-loop
 loop-again c =
-    let b = c .before .before .before in
-    let s = b .before .before .before .before .before in
+    let b = tested c .before in
+    let s = start b in
     let a = s .args in
     let l = channelsAs (a .a .now) (a .alens .now) in
     let m = channelsAs (a .b .now) (a .blens .now) in (
       omega arith,
-      one-more l m (a .k) (s .pre .0) (s .pre .1) (s .pre .2) (b .before .before .if1 .left) (b .loop .p) (b .loop .same)
-          (omega (arith, b .before .looked-at .ensures, c .before .before .loop-test .taken)) (b .loop .inv .1),
+      one-more l m (a .k) (s .pre .0) (s .pre .1) (s .pre .2) (equal b .if1 .left) (b .loop .p) (b .loop .same)
+          (omega (arith, b .before .looked-at .ensures, tested c .loop-test .taken)) (b .loop .inv .1),
     )
 
 returns-2 : tie.Need-returns-2 Inv-loop μ-loop
 returns-2 c =
     let b = c .before in
-    let s = b .before .before .before .before .before in
+    let s = start b in
     let a = s .args in
     let l = channelsAs (a .a .now) (a .alens .now) in
     let m = channelsAs (a .b .now) (a .blens .now) in
-    all-same l m (a .k) (s .pre .0) (s .pre .1) (s .pre .2) (b .before .before .if1 .left) (b .loop .p) (b .loop .same)
+    all-same l m (a .k) (s .pre .0) (s .pre .1) (s .pre .2) (equal b .if1 .left) (b .loop .p) (b .loop .same)
     (omega (arith, b .before .looked-at .ensures, c .loop-test .left)) (b .loop .inv .1)
 
 pub same-channel-spec : {M : Type 1} → statement M

@@ -1,7 +1,20 @@
--- `same::same_checkpoint` meets its contract, mark by mark. Assumes nothing.
+-- `same::same_checkpoint` meets its contract, mark by mark.
 use borrow.Author.Needs.{needs}
 use Rattle.same.proofs.same_checkpoint.Statement.{statement}
 use Rattle.same.proofs.same_checkpoint.Tie as tie
+
+-- What the second checkpoint and then the first one were told to be, where both keep a state.
+abbrev second-mutable : tie.After-same-saved → tie.After-b
+second-mutable c = c .before .before
+
+abbrev first-mutable : tie.After-b → tie.After-a
+first-mutable c = c .before .before .before
+
+abbrev second-permanent : tie.After-same-saved2 → tie.After-b2
+second-permanent c = c .before .before
+
+abbrev first-permanent : tie.After-b2 → tie.After-a2
+first-permanent c = c .before .before .before
 
 enum-told : tie.Need-enum-told
 enum-told c = search needs
@@ -58,7 +71,7 @@ returns-4 : tie.Need-returns-4
 returns-4 c = search needs
 
 returns-5 : tie.Need-returns-5
-returns-5 c = rw (c .same-saved .ensures, c .before .before .before .before .before .a .given .1, c .before .before .b .given .1)
+returns-5 c = rw (c .same-saved .ensures, first-mutable (second-mutable c) .a .given .1, second-mutable c .b .given .1)
 
 returns-6 : tie.Need-returns-6
 returns-6 c = search needs
@@ -70,7 +83,7 @@ returns-8 : tie.Need-returns-8
 returns-8 c = search needs
 
 returns-9 : tie.Need-returns-9
-returns-9 c = rw (c .same-saved2 .ensures, c .before .before .before .before .before .a2 .given .1, c .before .before .b2 .given .1)
+returns-9 c = rw (c .same-saved2 .ensures, first-permanent (second-permanent c) .a2 .given .1, second-permanent c .b2 .given .1)
 
 pub same-checkpoint-spec : {M : Type 1} → statement M
 same-checkpoint-spec =

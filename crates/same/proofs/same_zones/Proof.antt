@@ -1,21 +1,28 @@
--- `same::same_zones` meets its contract, by the zones before the next one. Assumes nothing.
+-- `same::same_zones` meets its contract, by the zones before the next one.
 use mathlib.Core.Path.{_≡_, _∙_, refl}
 use Prim.Native.Nat.{_-_, _≤_}
-use native.Mathlib.Numerals.{add-one}
 use native.Mathlib.Omega.{arith}
 use borrow.Author.Needs.{needs}
+use lib.ListN.{getD}
 use Rattle.rules.specs.Below.{allBelow}
-use Rattle.run.specs.State.{zoneAt}
-use Rattle.scan.proofs.Laws.{all-to}
+use Rattle.run.specs.State.{noLocal, zoneAt}
+use Rattle.run.proofs.BelowLaws.{all-to, all-next}
 use Rattle.journal.specs.Writing.{sameLocal, sameZones}
 use Rattle.same.proofs.same_zones.Statement.{statement}
 use Rattle.same.proofs.same_zones.Tie as tie
 
 abbrev Inv-loop : tie.InvT-loop
-Inv-loop count a b same₀ i₀ same i = (i ≤ count) × (same ≡ allBelow i (λ k. sameLocal (zoneAt a k) (zoneAt b k)))
+Inv-loop count xs ys same₀ i₀ same i = (i ≤ count) × (same ≡ allBelow i (λ k. sameLocal (getD xs k noLocal) (getD ys k noLocal)))
 
 abbrev μ-loop : tie.MeasureT-loop
-μ-loop count a b same₀ i₀ same i = count - i
+μ-loop count xs ys same₀ i₀ same i = count - i
+
+-- The start as seen from the loop, and the loop from the end of its body.
+abbrev start : tie.At-loop Inv-loop μ-loop → tie.Start Inv-loop μ-loop
+start c = c .before .before .before
+
+abbrev looped : tie.After-same-local Inv-loop μ-loop → tie.At-loop Inv-loop μ-loop
+looped c = c .before .before .before .before
 
 loop-holds : tie.Need-loop-holds Inv-loop μ-loop
 loop-holds c = (omega arith, refl)
@@ -43,15 +50,16 @@ loop-less c = search needs
 
 loop-again : tie.Need-loop-again Inv-loop μ-loop
 loop-again c =
-    let b = c .before .before .before .before in (omega arith, rw (add-one (b .loop .i), b .loop .inv .1, c .same-local .ensures))
+    let b = looped c .loop in
+    (omega arith, all-next _ (b .i) (b .inv .1) (c .same-local .ensures))
 
 returns : tie.Need-returns Inv-loop μ-loop
 unfolding sameZones
 returns c =
     let b = c .before in
-    let a = b .before .args in
+    let a = start b .args in
     let e : b .loop .i ≡ a .count = omega arith in
-    b .loop .inv .1 ∙ all-to (λ k. sameLocal (zoneAt (a .t2) k) (zoneAt (a .t3) k)) e
+    b .loop .inv .1 ∙ all-to (λ k. sameLocal (zoneAt (a .a) k) (zoneAt (a .b) k)) e
 
 pub same-zones-spec : {M : Type 1} → statement M
 same-zones-spec =

@@ -1,6 +1,6 @@
--- `scan::channel` meets its contract, by what the items before the next one add up to. Assumes nothing.
+-- `scan::channel` meets its contract, by what the items before the next one add up to.
 use mathlib.Core.Path.{_≡_, refl, sym}
-use mathlib.Core.Bool.{_&&_}
+use mathlib.Core.Bool.{_&&_, and-true}
 use mathlib.Core.List.{map}
 use Prim.Native.Nat.{_-_, _*_, _<_, _≤_, min}
 use native.Mathlib.Omega.{arith}
@@ -9,19 +9,29 @@ use lib.Dec.{leb}
 use lib.ListN.{take}
 use Rattle.channel.specs.Words.{itemOf}
 use Rattle.channel.specs.Channels.{channelsAs, wordsOn, lenOf}
-use Rattle.run.specs.State.{setsWithin, carsOf, channelSound}
-use Rattle.scan.proofs.Laws.{and-true, sound-item, cars-item, all-words}
+use Rattle.run.specs.State.{setsWithin, carsOf}
+use Rattle.scan.proofs.Laws.{sound-item, cars-item, sound-items, cars-items}
 use Rattle.scan.proofs.channel.Statement.{statement}
 use Rattle.scan.proofs.channel.Tie as tie
 
 abbrev Inv-loop : tie.InvT-loop
-Inv-loop count items lens k len n sound₀ cars₀ p₀ sound cars p =
-    (p ≤ n) × (sound ≡ (leb len 16 && setsWithin count (map itemOf (take p (wordsOn (channelsAs items lens) k)))))
+Inv-loop terms items lens k len n sound₀ cars₀ p₀ sound cars p =
+    (p ≤ n) × (sound ≡ (leb len 16 && setsWithin (terms .count) (map itemOf (take p (wordsOn (channelsAs items lens) k)))))
     × (cars ≡ carsOf (map itemOf (take p (wordsOn (channelsAs items lens) k))))
     × (cars ≤ 255 * p)
 
 abbrev μ-loop : tie.MeasureT-loop
-μ-loop count items lens k len n sound₀ cars₀ p₀ sound cars p = n - p
+μ-loop terms items lens k len n sound₀ cars₀ p₀ sound cars p = n - p
+
+-- The start as seen from the loop, and from the end of its body what the item and the loop's test told.
+abbrev start : tie.At-loop Inv-loop μ-loop → tie.Start Inv-loop μ-loop
+start c = c .before .before .before
+
+abbrev told : tie.After-struct-known2 Inv-loop μ-loop → tie.After-item Inv-loop μ-loop
+told c = c .before .before
+
+abbrev tested : tie.After-item Inv-loop μ-loop → tie.In-loop Inv-loop μ-loop
+tested c = c .before .before
 
 element-copy-out-len : tie.Need-element-copy-out-len Inv-loop μ-loop
 element-copy-out-len c = search needs
@@ -58,25 +68,24 @@ loop-less c = search needs
 
 loop-again : tie.Need-loop-again Inv-loop μ-loop
 loop-again c =
-    let b = c .before .before .before .before .before in
-    let a = b .before .before .before .args in
+    let t = tested (told c) in
+    let b = t .before in
+    let a = start b .args in
     let l = channelsAs (a .items .now) (a .lens .now) in
-    let h : b .loop .p < min (lenOf l (a .k)) 16 = omega (arith, b .before .looked-at .ensures, c .before .before .before .before .loop-test .taken) in (
+    let h : b .loop .p < min (lenOf l (a .k)) 16 = omega (arith, b .before .looked-at .ensures, t .loop-test .taken) in (
       omega arith,
-      sound-item l (a .k) (b .loop .p) h (a .count) (leb (lenOf l (a .k)) 16) _ _ (b .loop .inv .1) (c .before .before .item .ensures .0),
-      cars-item l (a .k) (b .loop .p) h _ _ (b .loop .inv .2) (c .before .before .item .ensures .1),
-      omega (arith, c .before .before .item .ensures .2, b .loop .inv .3),
+      sound-item l (a .k) (b .loop .p) h (a .terms .count) (leb (lenOf l (a .k)) 16) _ _ (b .loop .inv .1) (told c .item .ensures .0),
+      cars-item l (a .k) (b .loop .p) h _ _ (b .loop .inv .2) (told c .item .ensures .1),
+      omega (arith, told c .item .ensures .2, b .loop .inv .3),
     )
 
 returns : tie.Need-returns Inv-loop μ-loop
-unfolding channelSound
 returns c =
     let b = c .before in
-    let a = b .before .before .before .args in
+    let a = start b .args in
     let l = channelsAs (a .items .now) (a .lens .now) in
     let e : b .loop .p ≡ min (lenOf l (a .k)) 16 = omega (arith, b .before .looked-at .ensures) in
-    let w : take (b .loop .p) (wordsOn l (a .k)) ≡ wordsOn l (a .k) = rw e (all-words l (a .k)) in
-    (rw (← w) (b .loop .inv .1), rw (← w) (b .loop .inv .2), omega (arith, b .loop .inv .3))
+    (sound-items (a .terms) l (a .k) _ e _ (b .loop .inv .1), cars-items l (a .k) _ e _ (b .loop .inv .2), omega (arith, b .loop .inv .3))
 
 pub channel-spec : {M : Type 1} → statement M
 channel-spec =

@@ -1,41 +1,62 @@
--- `scan::is_sound` meets its contract. Assumes nothing.
-use mathlib.Core.Path.{_≡_, sym, _∙_}
-use mathlib.Core.Bool.{true}
+-- `scan::is_sound` meets its contract.
+use mathlib.Core.Path.{_≡_}
+use mathlib.Core.Bool.{Bool, true, _&&_}
+use Prim.Native.Nat.{ℕ, _+_}
 use native.Mathlib.Omega.{arith}
 use borrow.Author.Needs.{needs}
-use borrow.Author.Tests.{not-true, not-false}
+use lib.Dec.{leb}
 use Rattle.rules.specs.Questions.{isCount}
 use Rattle.rules.proofs.QuestionLaws.{count-high}
-use Rattle.run.specs.State.{partsSound}
+use Rattle.rules.proofs.Tests.{no, yes}
+use Rattle.channel.specs.declared.Channels.{Channels}
+use Rattle.run.specs.State.{termsOf, countOf, zonesSound, channelsSound, stocks, carsOnChannels, partsSound}
+use Rattle.run.specs.declared.Head.{Head}
 use Rattle.scan.proofs.is_sound.Statement.{statement}
 use Rattle.scan.proofs.is_sound.Tie as tie
+
+-- What the questions before have told: the site's zones have been looked at, and it has a count.
+abbrev zoned : tie.After-channels → tie.After-zones-of
+zoned c = c .before
+
+abbrev counted : tie.After-zones-of → tie.Else1
+counted c = c .before
+
+abbrev start : tie.Else1 → tie.Start
+start c = c .before .before .before .before
+
+is-a-count : (c : tie.Else1) → isCount (countOf (start c .args .head)) ≡ true
+is-a-count c = yes (c .before .is-count .ensures) (c .if1 .left)
+
+abbrev looked : tie.After-struct-known5 → tie.After-channels
+looked c = c .before .before .before .before .before
 
 is-count-requires : tie.Need-is-count-requires
 is-count-requires c κs = search needs
 
 returns : tie.Need-returns
 unfolding partsSound
-returns c = rw (sym (c .before .is-count .ensures) ∙ not-true _ (c .if1 .taken))
+returns c = rw (no (c .before .is-count .ensures) (c .if1 .taken))
 
 zones-of-requires : tie.Need-zones-of-requires
-zones-of-requires c κs = count-high _ (sym (c .before .is-count .ensures) ∙ not-false _ (c .if1 .left))
+zones-of-requires c κs = count-high _ (is-a-count c)
 
 channels-requires : tie.Need-channels-requires
-channels-requires c κs = count-high _ (sym (c .before .before .is-count .ensures) ∙ not-false _ (c .before .if1 .left))
+channels-requires c κs = count-high _ (is-a-count (counted c))
 
 add-result : tie.Need-add-result
-add-result c =
-    record {
-      fits = omega (arith, c .before .before .before .before .before .zones-of .ensures .2, c .before .before .before .before .channels .ensures .2);
-    }
+add-result c = record { fits = omega (arith, zoned (looked c) .zones-of .ensures .2, looked c .channels .ensures .2) }
+
+all-parts : (h : Head) (l : Channels) (a b : Bool) (m n : ℕ) → isCount (countOf h) ≡ true
+    → a ≡ zonesSound h → m ≡ stocks h → b ≡ channelsSound (termsOf h) l → n ≡ carsOnChannels (countOf h) l
+    → leb (h .records) 1000 && a && b && leb (m + n) 65535 ≡ partsSound h l
+unfolding partsSound
+all-parts h l a b m n e f g i j = rw (e, f, g, i, j)
 
 returns-2 : tie.Need-returns-2
-unfolding partsSound
 returns-2 c =
-    let b = c .before .before .before .before in
-    let e : isCount (b .before .before .before .before .args .count) ≡ true
-    = sym (b .before .before .before .is-count .ensures) ∙ not-false _ (b .before .before .if1 .left) in
-    rw (e, b .before .zones-of .ensures .0, b .before .zones-of .ensures .1, b .channels .ensures .0, b .channels .ensures .1)
+    let b = looked c in
+    let z = zoned b .zones-of .ensures in
+    all-parts _ _ _ _ _ _ (is-a-count (counted (zoned b))) (z .0) (z .1) (b .channels .ensures .0) (b .channels .ensures .1)
 
 pub is-sound-spec : {M : Type 1} → statement M
 is-sound-spec =

@@ -1,4 +1,4 @@
--- `scan::item` meets its contract: the three ranges of an item's word. Assumes nothing.
+-- `scan::item` meets its contract: the three ranges of an item's word.
 use mathlib.Core.Path.{refl, sym}
 use Prim.Native.Nat.{_^_, _-_}
 use native.Mathlib.Omega.{arith}

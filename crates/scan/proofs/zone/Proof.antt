@@ -1,4 +1,4 @@
--- `scan::zone` meets its contract. Assumes nothing.
+-- `scan::zone` meets its contract.
 use Rattle.run.specs.State.{zoneSound}
 use borrow.Author.Needs.{needs}
 use Rattle.scan.proofs.zone.Statement.{statement}

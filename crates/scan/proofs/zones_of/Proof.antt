@@ -1,26 +1,36 @@
--- `scan::zones_of` meets its contract, by what the zones before the next one add up to. Assumes nothing.
+-- `scan::zones_of` meets its contract, by what the zones before the next one add up to.
 use mathlib.Core.Path.{_≡_, refl, _∙_}
 use Prim.Native.Nat.{_-_, _*_, _≤_}
-use native.Mathlib.Numerals.{add-one}
 use native.Mathlib.Omega.{arith}
 use borrow.Author.Needs.{needs}
 use Rattle.rules.specs.Below.{allBelow, sumBelow}
-use Rattle.run.specs.State.{zoneAt, zoneSound, zonesSound, stocks}
-use Rattle.scan.proofs.Laws.{all-to, sum-to}
+use lib.ListN.{getD}
+use Rattle.run.specs.State.{countOf, noLocal, zoneAt, zoneSound, zonesSound, stocks}
+use Rattle.run.proofs.BelowLaws.{all-to, all-next, sum-to, sum-next}
 use Rattle.scan.proofs.zones_of.Statement.{statement}
 use Rattle.scan.proofs.zones_of.Tie as tie
 
 abbrev Inv-loop : tie.InvT-loop
 Inv-loop count records zones sound₀ cars₀ i₀ sound cars i =
-    (i ≤ count) × (sound ≡ allBelow i (λ k. zoneSound count records (zoneAt zones k)))
-    × (cars ≡ sumBelow i (λ k. zoneAt zones k .stock))
+    (i ≤ count) × (sound ≡ allBelow i (λ k. zoneSound count records (getD zones k noLocal)))
+    × (cars ≡ sumBelow i (λ k. getD zones k noLocal .stock))
     × (cars ≤ 65535 * i)
 
 abbrev μ-loop : tie.MeasureT-loop
 μ-loop count records zones sound₀ cars₀ i₀ sound cars i = count - i
 
+-- The start as seen from the loop, and the loop from the end of its body.
+abbrev start : tie.At-loop Inv-loop μ-loop → tie.Start Inv-loop μ-loop
+start c = c .before .before .before .before
+
+abbrev looped : tie.After-struct-known Inv-loop μ-loop → tie.At-loop Inv-loop μ-loop
+looped c = c .before .before .before .before
+
 loop-holds : tie.Need-loop-holds Inv-loop μ-loop
 loop-holds c = (omega arith, refl, refl, omega arith)
+
+cast-loop : tie.Need-cast-loop Inv-loop μ-loop
+cast-loop c = search needs
 
 mul-z : tie.Need-mul-z Inv-loop μ-loop
 mul-z c = search needs
@@ -45,21 +55,17 @@ loop-less c = search needs
 
 loop-again : tie.Need-loop-again Inv-loop μ-loop
 loop-again c =
-    let b = c .before .before .before .before in (
-      omega arith,
-      rw (add-one (b .loop .i), b .loop .inv .1, c .before .zone .ensures),
-      rw (add-one (b .loop .i), b .loop .inv .2),
-      omega (arith, b .loop .inv .3),
-    )
+    let b = looped c .loop in
+    (omega arith, all-next _ (b .i) (b .inv .1) (c .before .zone .ensures), sum-next _ (b .i) (b .inv .2) refl, omega (arith, b .inv .3))
 
 returns : tie.Need-returns Inv-loop μ-loop
 unfolding zonesSound stocks
 returns c =
     let b = c .before in
-    let a = b .before .args in
-    let e : b .loop .i ≡ a .count = omega arith in (
-      b .loop .inv .1 ∙ all-to (λ k. zoneSound (a .count) (a .records) (zoneAt (a .t3) k)) e,
-      b .loop .inv .2 ∙ sum-to (λ k. zoneAt (a .t3) k .stock) e,
+    let h = start b .args .head in
+    let e : b .loop .i ≡ countOf h = omega arith in (
+      b .loop .inv .1 ∙ all-to (λ k. zoneSound (countOf h) (h .records) (zoneAt h k)) e,
+      b .loop .inv .2 ∙ sum-to (λ k. zoneAt h k .stock) e,
       omega (arith, b .loop .inv .3),
     )
 
@@ -70,6 +76,7 @@ zones-of-spec =
     Inv-loop
     μ-loop
     loop-holds
+    cast-loop
     mul-z
     array-copy-out-z
     zone-requires

@@ -1,0 +1,70 @@
+-- Opening a site: what it is opened with is one value, from the caller's terms and stocks down to the rules' opening.
+use mathlib.Core.Bool.{Bool}
+use mathlib.Core.List.{List, [], _∷_}
+use Prim.Native.Nat.{ℕ}
+use lib.Dec.{leb, eqb}
+use lib.ListN.{length, getD, replicate}
+use Rattle.rules.specs.Below.{listBelow, sum}
+use Rattle.rules.specs.Limits.{mostZones, mostCars, mostRecords}
+use Rattle.rules.specs.Opening as rules
+use Rattle.rules.specs.Questions.{Question, question, ask, isCount}
+use Rattle.rules.specs.Zone.{opened}
+use Rattle.rules.specs.declared.Local.{Local}
+use Rattle.channel.specs.Channels.{channelsAs}
+use Rattle.channel.specs.declared.Channels.{Channels}
+use Rattle.run.specs.State.{runAs}
+use Rattle.run.specs.declared.Answer.{Answer}
+use Rattle.run.specs.declared.Head.{Head}
+use Rattle.run.specs.declared.Opening.{Opening}
+use Rattle.run.specs.declared.Run.{Run}
+use Rattle.run.specs.declared.Terms.{Terms}
+
+abbrev pub termsAs : ℕ → Terms
+termsAs count = record { count = count }
+
+-- An opening of its terms and a list of stocks, which may have any length: questions 2 to 4 judge it.
+abbrev pub openingAs : Terms → List ℕ → Opening
+openingAs terms stocks = record { terms = terms; stocks = stocks }
+
+-- The stock of the zone at an index: 0 behind the end of the list.
+abbrev pub stockAt : Opening → ℕ → ℕ
+stockAt o i = getD (o .stocks) i 0
+
+-- The same opening as the rules have it.
+abbrev pub openingOf : Opening → rules.Opening
+openingOf o = record { stocks = stockAt o }
+
+-- The head of an opening: zones that the site does not have are kept as zones opened with stock 0.
+abbrev pub openedZones : Opening → List Local
+openedZones o = listBelow mostZones (λ i. opened i (stockAt o i))
+
+abbrev pub openedHead : Opening → Head
+openedHead o = record {
+  opening = record { terms = o .terms; stocks = listBelow mostZones (stockAt o) };
+  records = 0;
+  zones = openedZones o;
+}
+
+abbrev pub noChannels : Channels
+noChannels = channelsAs (replicate 1024 0) (replicate 64 0)
+
+unfoldable pub openedRun : Opening → Run
+openedRun o = runAs (openedHead o) noChannels (replicate mostRecords 0)
+
+-- "Open: 2, 3, 4."
+abbrev pub openQuestions : Opening → List Question
+openQuestions o =
+    question 2 (isCount (o .terms .count))
+    ∷ question 3 (eqb (length (o .stocks)) (o .terms .count))
+    ∷ question 4 (leb (sum (o .stocks)) mostCars)
+    ∷ []
+
+-- "A refused opening or reading hands back, beside the number, a run of 2 zones with stock 0 and no records."
+abbrev pub fallback : Opening
+fallback = openingAs (termsAs 2) (0 ∷ 0 ∷ [])
+
+abbrev pub unopened : ℕ → Answer
+unopened n = record { refusal = n; run = openedRun fallback }
+
+unfoldable pub openCall : Opening → Answer
+openCall o = ask (openQuestions o) unopened (record { refusal = 0; run = openedRun o })
