@@ -1,4 +1,4 @@
--- `steps::is_pair` meets its contract. Assumes nothing.
+-- `steps::is_pair` meets its contract.
 use Rattle.run.specs.Calls.{isPair}
 use borrow.Author.Needs.{needs}
 use Rattle.steps.proofs.is_pair.Statement.{statement}

@@ -1,4 +1,4 @@
--- `steps::message_word` meets its contract. Assumes nothing.
+-- `steps::message_word` meets its contract.
 use native.Mathlib.Omega.{arith}
 use Rattle.channel.specs.Words.{messageWord}
 use borrow.Author.Needs.{needs}

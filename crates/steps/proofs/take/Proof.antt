@@ -1,4 +1,4 @@
--- `steps::take` meets its contract: a message or a request, by the word. Assumes nothing.
+-- `steps::take` meets its contract: a message or a request, by the word.
 use mathlib.Core.Path.{_≡_}
 use Prim.Native.Nat.{_-_, _%_, _<_}
 use native.Mathlib.Omega.{arith}

@@ -1,0 +1,57 @@
+-- A call over the parts of a run: of the zones only the one that acts is passed, and the channels and the journal are lent.
+use mathlib.Core.Path.{_≡_}
+use mathlib.Core.Bool.{true}
+use mathlib.Core.Logic.{_≢_}
+use mathlib.Core.List.{List}
+use lib.ListN.{set}
+use Prim.Native.Nat.{ℕ, _+_, _<_, _≤_}
+use Rattle.rules.specs.Questions.{index, isOn}
+use Rattle.rules.specs.declared.Local.{Local}
+use Rattle.channel.specs.Channels.{channelsAs, place, lenOf, firstOf}
+use Rattle.channel.specs.Words.{itemOf, carsIn, setIn}
+use Rattle.channel.specs.declared.Channels.{Channels}
+use Rattle.run.specs.Calls.{isPair}
+use Rattle.run.specs.State.{runAs, termsOf, zoneAt, putBack, partsSound}
+use Rattle.run.specs.declared.Answer.{Answer}
+use Rattle.run.specs.declared.Head.{Head}
+use Rattle.run.specs.declared.SiteCall.{SiteCall}
+use Rattle.run.specs.declared.SiteCall.the-variants.{Send, Receive, Start}
+use Rattle.run.specs.declared.Terms.{Terms}
+use Rattle.steps.specs.declared.Acted.{Acted}
+use Rattle.steps.specs.declared.Effect.{Effect}
+
+-- The parts are those of a head of which question 1 was answered yes, with the zone z at index `at`.
+pub record Stands (h : Head) (terms : Terms) (records at : ℕ) (z : Local) (l : Channels) : Type 0 where
+  pub opened : termsOf h ≡ terms
+  pub number : h .records ≡ records
+  pub acting : zoneAt h at ≡ z
+  pub sound : partsSound h l ≡ true
+
+pub record Ready (terms : Terms) (records at : ℕ) (z : Local) (l : Channels) : Type 0 where
+  pub head : Head
+  pub stands : Stands head terms records at z l
+
+-- What the effect of a call rests on, so that no count wraps: its zones are on a site, and there is room for what it takes.
+abbrev pub Fits : SiteCall → Local → Channels → Type 0
+Fits (Send from to cars) z l = (isPair 8 from to ≡ true) × (z .events < 1000)
+Fits (Receive from to) z l =
+    (isPair 8 from to ≡ true) × (z .events < 1000)
+    × (0 < lenOf l (place (index from) (index to))
+    → (z .stock + carsIn (itemOf (firstOf l (place (index from) (index to)))) ≤ 65535)
+    × (setIn (itemOf (firstOf l (place (index from) (index to)))) < 256))
+Fits (Start zone) z l = isOn 8 zone ≡ true
+
+-- The answer on the whole run, of what a call answers and leaves in the lent arrays.
+abbrev pub answerAs : Head → ℕ → Acted → List ℕ → List ℕ → List ℕ → Answer
+answerAs h at o items lens journal = record {
+  refusal = o .refusal;
+  run = runAs (putBack h at (o .zone) (o .records)) (channelsAs items lens) journal;
+}
+
+abbrev pub refusedBy : ℕ → ℕ → Local → Acted
+refusedBy n records z = record { refusal = n; records = records; zone = z }
+
+-- What is left of a call behind its effect, where its record is a word.
+pub record Finished (made : Effect) (records : ℕ) (z : Local) (before : List ℕ) (word : ℕ) (o : Acted) (after : List ℕ) : Type 0 where
+  pub denied : made .refusal ≢ 0 → (o ≡ refusedBy (made .refusal) records z) × (after ≡ before)
+  pub granted : made .refusal ≡ 0 → (o ≡ record { refusal = 0; records = records + 1; zone = made .zone }) × (after ≡ set before records word)
