@@ -1,4 +1,4 @@
--- Words written one behind another over lent bytes, and those of one channel. Assumes nothing.
+-- Words written one behind another over lent bytes, and those of one channel.
 use mathlib.Core.Path.{_≡_, refl, sym, _∙_, ap}
 use mathlib.Core.Bool.{Bool, true, false, _&&_, cond, and-false}
 use mathlib.Core.List.{List, [], _∷_, _++_, append-assoc, append-nil}
@@ -10,16 +10,16 @@ use lib.Dec.{eqb, leb}
 use lib.Seq.{drop-nil, drop-cons}
 use borrow.Author.Tests.{eq-eqb, ne-eqb, leb-true, leb-false}
 use borrow.Rule.Slice.PartMut.{putMid, midOf}
-use Rattle.journal.specs.Bytes.{wordBytes, wordsBytes}
-use Rattle.journal.proofs.ByteLaws.{bytes-length, bytes-append}
-use Rattle.writer.proofs.Laws.{wrote-more}
+use Rattle.words.specs.Bytes.{wordBytes, wordsBytes}
+use Rattle.words.proofs.ByteLaws.{bytes-length, bytes-append}
+use Rattle.words.proofs.WriteLaws.{wrote-more}
 use Rattle.rules.specs.Below.{sumBelow}
 use Rattle.rules.specs.Change.{cons-if}
 use Rattle.recording.specs.Layout.{joinBelow}
-use Rattle.recording.specs.Records.{isIn, sentWords, takenCount, itemsAt}
-use Rattle.run.specs.State.{isChannel}
-use Rattle.items.specs.Items.{Counted, numberAt, itemNumber, wordsAt, allWords}
-use Rattle.items.specs.Wrote.{Wrote}
+use Rattle.recording.specs.InnerRecords.{isIn, sentWords, takenCount, itemsAt}
+use Rattle.items.specs.InnerItems.{Counted, numberAt, itemNumber, wordsAt, allWords}
+use Rattle.words.specs.InnerWrote.{Wrote}
+use Rattle.channel.specs.Channels.{isChannel}
 
 pub none-wrote : (o : List ℕ) → Wrote [] o o 0
 none-wrote o = record { number = refl; bytes = refl }

@@ -3,9 +3,9 @@ ghost use mathlib.Core.Path.{_≡_};
 ghost use mathlib.Core.Bool.{cond};
 ghost use Prim.Native.Nat.{_-_, _*_, _/_, _<_, _≤_};
 ghost use lib.ListN.{length, getD, drop};
-ghost use Rattle.recording.specs.Records.{isIn, sentWords};
-ghost use Rattle.items.specs.Items.{Counted, ownerOf, numberAt, itemNumber, wordsAt, allWords};
-ghost use Rattle.items.specs.Wrote.{Wrote};
+ghost use Rattle.recording.specs.InnerRecords.{isIn, sentWords};
+ghost use Rattle.items.specs.InnerItems.{ownerOf, counts, Counted, numberAt, itemNumber, wordsAt, allWords};
+ghost use Rattle.words.specs.InnerWrote.{Wrote};
 
 // 1 for an event that is inside the events shown, by its number; else 0.
 fn inside(number: u16, shown: u16) -> u16
@@ -37,10 +37,11 @@ fn shown_for(shown: [u16; 8], high: usize) -> u16
 }
 
 // The records that are inside the events shown, counted by the high byte of their word: messages sent on the channel at place k stand
-// at k, receipts on it at 64 + k. Each of the at most 1,000 records has its own-event number.
+// at k, receipts on it at 64 + k. Each of the at most 1,000 records has its own-event number. `counted-of` (crates/items/proofs) says
+// that these are the numbers for which `write` asks.
 pub fn counted(words: &[u16], owns: &[u16], shown: [u16; 8]) -> [u16; 256]
     requires { ⌜ (length (now words) ≤ 1000) × (length (now owns) ≡ length (now words)) ⌝ }
-    ensures { λ r. ⌜ Counted r shown (now (words .entry)) (now (owns .entry)) ⌝ }
+    ensures { λ r. ⌜ r ≡ counts shown (now (words .entry)) (now (owns .entry)) ⌝ }
 {
     let mut seen = [0u16; 256];
     for i in 0..words.len() {
@@ -69,7 +70,7 @@ fn number_at(count: u8, seen: &[u16; 256], k: usize) -> usize
     requires { ⌜ k < 64 ⌝ }
     ensures { λ r. ⌜ (r ≡ numberAt count (now (seen .entry)) k) × (r ≤ 65535) ⌝ }
 {
-    if !scan::is_channel(count, k) {
+    if !channel::is_channel(count, k) {
         return 0;
     }
     let sent = seen[k];
@@ -123,7 +124,7 @@ fn write_channel(
             left -= 1;
             continue;
         }
-        writer::write_word(&mut out[at..], word);
+        words::write_word(&mut out[at..], word);
         at += 2;
     }
     at

@@ -1,28 +1,42 @@
--- The words that are written for a run that question 1 passes are those of its recording by the rules. Assumes nothing.
-use mathlib.Core.Path.{_≡_, refl, sym, _∙_, ap, ap₂}
-use mathlib.Core.Bool.{true, cond}
+-- The words that are written for a run that question 1 passes are those of its recording by the rules.
+use mathlib.Core.Path.{_≡_, refl, sym, _∙_, ap, ap₂, subst}
+use mathlib.Core.Bool.{true, cond, false}
+use mathlib.Core.Logic.{_≢_}
 use mathlib.Core.List.{List, [], _∷_, _++_}
-use Prim.Native.Nat.{ℕ, suc, _<_}
+use Prim.Native.Nat.{ℕ, suc, _<_, _-_, _≤_}
 use native.Mathlib.Omega.{arith}
 use lib.Dec.{ltb}
-use lib.ListN.{length, take, getD}
+use lib.ListN.{length, take, getD, drop, length-append, length-take, length-drop}
 use lib.Seq.{length-take-le, take-at}
-use borrow.Author.Tests.{lt-ltb}
+use borrow.Author.Tests.{lt-ltb, eq-eqb, ne-eqb}
 use Rattle.rules.specs.Cut.{eventsOf}
 use Rattle.run.specs.Claims.{WholeRun}
-use Rattle.run.specs.State.{zoneAt, hasStarted}
+use Rattle.run.specs.State.{zoneAt, hasStarted, termsOf, countOf}
 use Rattle.run.specs.declared.Run.{Run}
 use Rattle.run.proofs.BelowLaws.{list-at}
-use Rattle.journal.specs.Bytes.{wordsBytes}
-use Rattle.journal.specs.Format.{headerWord}
-use Rattle.journal.specs.Owns.{ownNumbers}
+use Rattle.words.specs.Bytes.{wordsBytes}
+use Rattle.journal.specs.Format.{headerOf}
+use Rattle.journal.specs.declared.Written.{Written}
+use Rattle.journal.specs.declared.Reading.{Reading}
+use Rattle.journal.specs.Reading.{openingIn, recordsIn, recordsOf}
+use Rattle.journal.proofs.Accepted.{read-tells, read-replayed}
+use Rattle.recording.proofs.Read.{read-whole}
+use Rattle.recording.specs.Journal.{recordJournal}
+use Rattle.words.proofs.ByteLaws.{words-length}
+use Rattle.journal.specs.InnerOwns.{ownNumbers}
 use Rattle.journal.specs.Writing.{isReplayed}
 use Rattle.recording.specs.Call.{snapshotOf, noRequests, recordCall}
 use Rattle.recording.specs.Layout.{joinBelow, zoneWords, itemWords, recordingBytes}
 use Rattle.recording.proofs.Bounds.{run-sound, items-few, events-few}
 use Rattle.recording.proofs.Zones.{wordsAt, firstRun, events-are, zone-words-are, item-words-are}
-use Rattle.items.specs.Items.{allWords, wordsAt as itemsAtPlace}
-use Rattle.recorder.specs.Words.{zonesWords, shownEvents, itemsWords, recordedBytes, Fitting, sizedOutput}
+use Rattle.items.specs.InnerItems.{allWords, wordsAt as itemsAtPlace}
+use Rattle.recorder.specs.InnerWords.{zonesWords, shownEvents, itemsWords, recordedBytes, Fitting, sizedOutput, Replayed}
+use Rattle.rules.proofs.AskLaws.{numbers}
+use Rattle.run.specs.Calls.{answer}
+use Rattle.journal.specs.Reading.{readCall, openingIn}
+use Rattle.run.specs.Opening.{openedRun}
+use Rattle.recording.specs.Journal.{recordJournal}
+use Rattle.run.specs.declared.Opening.{Opening}
 
 numbers-length : (ws : List ℕ) (r : Run) → length (ownNumbers ws r) ≡ length ws
 numbers-length [] r = refl
@@ -33,29 +47,29 @@ module _ (r : Run) (w : WholeRun r) (e : isReplayed r ≡ true) where
   abbrev pub numbersAt : List ℕ
   numbersAt = ownNumbers (wordsAt r) (firstRun r)
 
-  shown-at : (i : ℕ) → i < r .count → getD (shownEvents (r .count) (r .zones)) i 0 ≡ eventsOf (zoneAt (r .zones) i .checkpoint)
+  shown-at : (i : ℕ) → i < countOf (r .head) → getD (shownEvents (r .head)) i 0 ≡ eventsOf (zoneAt (r .head) i .checkpoint)
   unfolding shownEvents
   shown-at i h =
-      list-at 8 (λ j. cond (ltb j (r .count)) (eventsOf (zoneAt (r .zones) j .checkpoint)) 0) 0 i (omega (arith, run-sound r w e .most))
-      ∙ rw (lt-ltb i (r .count) h)
+      list-at 8 (λ j. cond (ltb j (countOf (r .head))) (eventsOf (zoneAt (r .head) j .checkpoint)) 0) 0 i (omega (arith, run-sound r w e .most))
+      ∙ rw (lt-ltb i (countOf (r .head)) h)
 
-  items-are : itemWords (r .count) (snapshotOf r) ≡ itemsWords (r .count) (r .zones) (wordsAt r) numbersAt
+  items-are : itemWords (countOf (r .head)) (snapshotOf r) ≡ itemsWords (r .head) (wordsAt r) numbersAt
   unfolding allWords itemsAtPlace
-  items-are = item-words-are r w e (shownEvents (r .count) (r .zones)) shown-at
+  items-are = item-words-are r w e (shownEvents (r .head)) shown-at
 
-  zones-are : joinBelow (r .count) (zoneWords (snapshotOf r)) ≡ zonesWords (r .count) (r .zones) (r .opening)
+  zones-are : joinBelow (countOf (r .head)) (zoneWords (snapshotOf r)) ≡ zonesWords (r .head)
   unfolding zonesWords
   zones-are = zone-words-are r w e
 
-  pub bytes-are : recordedBytes (r .count) (r .zones) (r .opening) (wordsAt r) numbersAt ≡ recordingBytes (r .count) (snapshotOf r)
+  pub bytes-are : recordedBytes (r .head) (wordsAt r) numbersAt ≡ recordingBytes (termsOf (r .head)) (snapshotOf r)
   unfolding recordedBytes recordingBytes
   bytes-are =
-      ap₂ (λ (zs is : List ℕ). wordsBytes (headerWord (r .count) (length is) ∷ zs ++ is)) (sym zones-are) (sym items-are)
+      ap₂ (λ (zs is : List ℕ). wordsBytes (headerOf (termsOf (r .head)) (length is) ∷ zs ++ is)) (sym zones-are) (sym items-are)
 
-  records-length : length (wordsAt r) ≡ r .records
-  records-length = length-take-le (r .records) (r .journal) (omega (arith, w .journal, run-sound r w e .records))
+  records-length : length (wordsAt r) ≡ r .head .records
+  records-length = length-take-le (r .head .records) (r .journal) (omega (arith, w .journal, run-sound r w e .records))
 
-  pub fitting : Fitting (r .count) (r .zones) (wordsAt r) numbersAt
+  pub fitting : Fitting (r .head) (wordsAt r) numbersAt
   fitting = record {
     fewest = omega (arith, run-sound r w e .fewest);
     most = run-sound r w e .most;
@@ -66,15 +80,103 @@ module _ (r : Run) (w : WholeRun r) (e : isReplayed r ≡ true) where
   }
 
   -- The numbers stand at the front of what was lent for them.
-  pub numbers-records : length numbersAt ≡ r .records
+  pub numbers-records : length numbersAt ≡ r .head .records
   numbers-records = numbers-length (wordsAt r) (firstRun r) ∙ records-length
 
-  pub numbers-front : (rest : List ℕ) → take (r .records) (numbersAt ++ rest) ≡ numbersAt
-  numbers-front rest = take-at numbersAt rest (r .records) numbers-records
+  pub numbers-front : (rest : List ℕ) → take (r .head .records) (numbersAt ++ rest) ≡ numbersAt
+  numbers-front rest = take-at numbersAt rest (r .head .records) numbers-records
 
   -- After questions 1, 12 and 13 what is left is question 14 and these bytes.
-  pub sized-is : (lent ws ns : List ℕ) → ws ≡ wordsAt r → ns ≡ numbersAt → hasStarted (r .count) (r .zones) ≡ true
-      → noRequests (r .count) (r .channels) ≡ true
-      → sizedOutput lent (recordedBytes (r .count) (r .zones) (r .opening) ws ns) ≡ recordCall r lent
+  pub sized-is : (lent ws ns : List ℕ) → ws ≡ wordsAt r → ns ≡ numbersAt → hasStarted (r .head) ≡ true
+      → noRequests (countOf (r .head)) (r .channels) ≡ true
+      → sizedOutput lent (recordedBytes (r .head) ws ns) ≡ recordCall r lent
   unfolding recordCall sizedOutput
   sized-is lent ws ns p q started free = rw (p, q, bytes-are, e, started, free)
+
+  -- What was lent for the numbers has them at its front, and its length.
+  pub replayed-from : (owns after : List ℕ) → length owns ≡ 1000 → after ≡ numbersAt ++ drop (r .head .records) owns
+      → Replayed r after × (length after ≡ 1000)
+  replayed-from owns after l q = (
+    record { whole = w; asked = e; numbers = ap (take (r .head .records)) q ∙ numbers-front _ },
+    ap length q ∙ omega (
+      arith,
+      length-append numbersAt (drop (r .head .records) owns),
+      length-drop (r .head .records) owns,
+      numbers-records,
+      run-sound r w e .records,
+    ),
+  )
+
+-- The refusals behind question 1.
+module _ (r : Run) (e : isReplayed r ≡ true) (lent : List ℕ) (w : Written) where
+  pub refused-12 : hasStarted (r .head) ≡ false → w ≡ record { refusal = 12; written = 0 }
+      → (w ≡ recordCall r lent .answer) × (lent ≡ recordCall r lent .bytes)
+  unfolding recordCall
+  refused-12 s q = rw (e, s) (q, refl)
+
+  pub refused-13 : hasStarted (r .head) ≡ true → noRequests (countOf (r .head)) (r .channels) ≡ false → w ≡ record { refusal = 13; written = 0 }
+      → (w ≡ recordCall r lent .answer) × (lent ≡ recordCall r lent .bytes)
+  unfolding recordCall
+  refused-13 s f q = rw (e, s, f) (q, refl)
+
+pub refused-1 : (r : Run) (lent : List ℕ) (w : Written) → isReplayed r ≡ false → w ≡ record { refusal = 1; written = 0 }
+    → (w ≡ recordCall r lent .answer) × (lent ≡ recordCall r lent .bytes)
+unfolding recordCall
+refused-1 r lent w e q = rw e (q, refl)
+
+-- The records and the numbers that are passed on are those of the run.
+module _ (r : Run) (owns : List ℕ) (p : Replayed r owns) where
+  less-none : r .head .records - 0 ≡ r .head .records
+  less-none = omega arith
+
+  words-are : take (r .head .records - 0) (r .journal) ≡ wordsAt r
+  words-are = ap (λ (n : ℕ). take n (r .journal)) less-none
+
+  numbers-are : take (r .head .records - 0) owns ≡ numbersAt r (p .whole) (p .asked)
+  numbers-are = ap (λ (n : ℕ). take n owns) less-none ∙ p .numbers
+
+  pub enough-owns : r .head .records ≤ length owns
+  enough-owns = omega (arith, length-take (r .head .records) owns, ap length (p .numbers), numbers-records r (p .whole) (p .asked))
+
+  pub enough-words : r .head .records ≤ length (r .journal)
+  enough-words = omega (arith, p .whole .journal, run-sound r (p .whole) (p .asked) .records)
+
+  pub parts-fit : Fitting (r .head) (take (r .head .records - 0) (r .journal)) (take (r .head .records - 0) owns)
+  parts-fit =
+      subst (λ (ws : List ℕ). Fitting (r .head) ws (take (r .head .records - 0) owns)) (sym words-are)
+      (subst (Fitting (r .head) (wordsAt r)) (sym numbers-are) (fitting r (p .whole) (p .asked)))
+
+  pub parts-written : (lent : List ℕ) → hasStarted (r .head) ≡ true → noRequests (countOf (r .head)) (r .channels) ≡ true
+      → sizedOutput lent (recordedBytes (r .head) (take (r .head .records - 0) (r .journal)) (take (r .head .records - 0) owns)) ≡ recordCall r lent
+  parts-written lent s f = sized-is r (p .whole) (p .asked) lent _ _ words-are numbers-are s f
+
+-- The same of a run that was just read.
+module _ (bytes : List ℕ) (t : Reading) (q : t ≡ readCall bytes) (z : t .refusal ≡ 0) where
+  accepted : readCall bytes .refusal ≡ 0
+  accepted = ap (λ (x : Reading). x .refusal) (sym q) ∙ z
+
+  pub read-from : (owns after : List ℕ) → length owns ≡ 1000
+      → after ≡ ownNumbers (recordsIn bytes) (openedRun (openingIn bytes)) ++ drop (recordsOf bytes) owns
+      → Replayed (t .run) after × (length after ≡ 1000)
+  read-from owns after l e =
+      let r = readCall bytes .run in
+      let w = read-whole bytes [] accepted in
+      let k = read-replayed bytes accepted in
+      let h = read-tells bytes accepted in
+      let n : recordsOf bytes ≡ r .head .records = sym (words-length bytes _ _) ∙ sym (h .number) in
+      let f : after ≡ numbersAt r w k ++ drop (r .head .records) owns =
+      e ∙ ap₂ (λ (ws : List ℕ) (o : Opening). ownNumbers ws (openedRun o) ++ drop (recordsOf bytes) owns) (sym (h .records)) (sym (h .opening))
+      ∙ ap (λ (n : ℕ). numbersAt r w k ++ drop n owns) n in
+      subst (λ (x : Reading). Replayed (x .run) after × (length after ≡ 1000)) (sym q) (replayed-from r w k owns after l f)
+
+  pub journal-recorded : (lent : List ℕ) (w : Written) (out : List ℕ) → w ≡ recordCall (t .run) lent .answer → out ≡ recordCall (t .run) lent .bytes
+      → (record { refusal = w .refusal; position = 0; written = w .written } ≡ recordJournal bytes lent .answer)
+      × (out ≡ recordJournal bytes lent .bytes)
+  unfolding recordJournal
+  journal-recorded lent w out f g = rw (f, g, q, eq-eqb _ _ accepted) (refl, refl)
+
+pub journal-refused : (bytes lent : List ℕ) (t : Reading) → t ≡ readCall bytes → t .refusal ≢ 0
+    → (record { refusal = t .refusal; position = t .position; written = 0 } ≡ recordJournal bytes lent .answer)
+    × (lent ≡ recordJournal bytes lent .bytes)
+unfolding recordJournal
+journal-refused bytes lent t q z = rw (q, ne-eqb _ _ (subst (λ (x : Reading). x .refusal ≢ 0) q z)) (refl, refl)

@@ -1,4 +1,4 @@
--- The events shown for each zone, filled in one after another, and the words of the zones before the next one. Assumes nothing.
+-- The events shown for each zone, filled in one after another, and the words of the zones before the next one.
 use mathlib.Core.Path.{_≡_, refl, sym, _∙_}
 use mathlib.Core.Bool.{Bool, true, false, cond}
 use mathlib.Core.List.{List}
@@ -10,12 +10,13 @@ use lib.ListN.{length, getD, set, replicate, length-append}
 use lib.Seq.{getD-set-same, getD-set-other, ext-getD}
 use borrow.Author.Tests.{lt-ltb, le-ltb, ltb-true, ltb-false}
 use Rattle.rules.specs.Below.{listBelow}
-use Rattle.rules.specs.declared.Local.{Local}
 use Rattle.rules.proofs.Tests.{Same, same?}
-use Rattle.run.specs.State.{zoneAt}
+use Rattle.run.specs.State.{zoneAt, countOf}
 use Rattle.run.proofs.BelowLaws.{length-below, list-at}
 use Rattle.recording.specs.Layout.{joinBelow}
-use Rattle.recorder.specs.Words.{markWords, zonesWords}
+use Rattle.recorder.specs.InnerWords.{markWords, zonesWords}
+use Rattle.run.specs.declared.Head.{Head}
+use Rattle.run.specs.Opening.{stockAt}
 
 -- The first i numbers of a function, and 0 behind them.
 module _ (f : ℕ → ℕ) where
@@ -49,17 +50,16 @@ module _ (f : ℕ → ℕ) where
       (λ j h. more j ∙ sym (list-at m (part n) 0 j (omega arith)))
 
 -- Two words a zone.
-pub zones-size : (zones : List Local) (opening : List ℕ) (i : ℕ)
-    → length (joinBelow i (λ j. markWords (zoneAt zones j .checkpoint) (getD opening j 0))) ≡ 2 * i
-zones-size zones opening zero = refl
-zones-size zones opening (suc i) =
-    let q = zones-size zones opening i in
+pub zones-size : (h : Head) (i : ℕ) → length (joinBelow i (λ j. markWords (zoneAt h j .checkpoint) (stockAt (h .opening) j))) ≡ 2 * i
+zones-size h zero = refl
+zones-size h (suc i) =
+    let q = zones-size h i in
     omega (
       arith,
-      length-append (joinBelow i (λ j. markWords (zoneAt zones j .checkpoint) (getD opening j 0)))
-          (markWords (zoneAt zones i .checkpoint) (getD opening i 0)),
+      length-append (joinBelow i (λ j. markWords (zoneAt h j .checkpoint) (stockAt (h .opening) j)))
+          (markWords (zoneAt h i .checkpoint) (stockAt (h .opening) i)),
     )
 
-pub zones-length : (count : ℕ) (zones : List Local) (opening : List ℕ) → length (zonesWords count zones opening) ≡ 2 * count
+pub zones-length : (h : Head) → length (zonesWords h) ≡ 2 * countOf h
 unfolding zonesWords
-zones-length count zones opening = zones-size zones opening count
+zones-length h = zones-size h (countOf h)

@@ -1,8 +1,8 @@
--- Whether a channel holds a request, by its words one after another. Assumes nothing.
+-- Whether a channel holds a request, by its words one after another.
 use mathlib.Core.Path.{_≡_, refl, sym, _∙_, ap}
-use mathlib.Core.Bool.{Bool, true, false, _&&_, _||_}
+use mathlib.Core.Bool.{Bool, true, false, _&&_, _||_, not}
 use mathlib.Core.List.{List, [], _∷_, map}
-use Prim.Native.Nat.{ℕ, zero, suc, _+_, _*_, _<_}
+use Prim.Native.Nat.{ℕ, zero, suc, _+_, _*_, _<_, min, _≤_}
 use native.Mathlib.Numerals.{add-one}
 use native.Mathlib.Omega.{arith}
 use lib.Dec.{leb, ltb}
@@ -11,8 +11,9 @@ use lib.Seq.{getD-take, getD-drop, take-all}
 use borrow.Author.Tests.{le-leb, lt-leb, ltb-true, ltb-false}
 use Rattle.rules.specs.Site.{Item, waits}
 use Rattle.channel.specs.Words.{itemOf}
-use Rattle.channel.specs.Channels.{wordsOn, lenOf, row}
+use Rattle.channel.specs.Channels.{wordsOn, lenOf, row, itemsOn, isChannel}
 use Rattle.channel.specs.declared.Channels.{Channels}
+use Rattle.recorder.specs.InnerWords.{quietAt}
 
 -- A request is a word of 512 or more.
 waits-first : (w : ℕ) (xs : List Item) → waits (itemOf w ∷ xs) ≡ (leb 512 w || waits xs)
@@ -40,25 +41,32 @@ more (w ∷ ws) (suc p) =
     ∙ or-assoc (leb 512 w) (waits (map itemOf (take p ws))) (leb 512 (getD ws p 0))
     ∙ ap (λ (b : Bool). b || leb 512 (getD ws p 0)) (sym (waits-first w (map itemOf (take p ws))))
 
--- One place more of a channel: it counts where it is before the channel's end.
-module _ (l : Channels) (k p : ℕ) (h : p < 16) where
-  looked : (ltb p (lenOf l k) && leb 512 (getD (l .items) (k * 16 + p) 0)) ≡ leb 512 (getD (wordsOn l k) p 0)
-  looked = go (ltb p (lenOf l k)) refl
-    where
-      at : getD (row (l .items) k) p 0 ≡ getD (l .items) (k * 16 + p) 0
-      at = getD-take 16 (drop (k * 16) (l .items)) p 0 h ∙ getD-drop (k * 16) (l .items) p 0
-
-      go : (b : Bool) → ltb p (lenOf l k) ≡ b → (b && leb 512 (getD (l .items) (k * 16 + p) 0)) ≡ leb 512 (getD (wordsOn l k) p 0)
-      go true e = ap (leb 512) (sym (getD-take (lenOf l k) (row (l .items) k) p 0 (ltb-true p (lenOf l k) e) ∙ at))
-      go false e =
-          ap (leb 512) (sym (List·getD-eq-default (wordsOn l k) 0 {n = p}
-          (omega (arith, length-take (lenOf l k) (row (l .items) k), ltb-false p (lenOf l k) e))))
+-- One place more of a channel, before its end.
+module _ (l : Channels) (k p n : ℕ) (e : n ≡ min (lenOf l k) 16) (h : p < n) where
+  looked : getD (l .items) (k * 16 + p) 0 ≡ getD (wordsOn l k) p 0
+  looked =
+      sym (getD-take (lenOf l k) (row (l .items) k) p 0 (omega arith) ∙ getD-take 16 (drop (k * 16) (l .items)) p 0 (omega arith)
+      ∙ getD-drop (k * 16) (l .items) p 0)
 
   pub waits-more : (b : Bool) → b ≡ waits (map itemOf (take p (wordsOn l k)))
-      → (b || (ltb p (lenOf l k) && leb 512 (getD (l .items) (k * 16 + p) 0))) ≡ waits (map itemOf (take (p + 1) (wordsOn l k)))
-  waits-more b e = rw (add-one p, more (wordsOn l k) p, e, looked)
+      → (b || leb 512 (getD (l .items) (k * 16 + p) 0)) ≡ waits (map itemOf (take (p + 1) (wordsOn l k)))
+  waits-more b q = rw (add-one p, more (wordsOn l k) p, q, looked)
 
 -- All places are passed.
-pub waits-all : (l : Channels) (k p : ℕ) → p ≡ 16 → take p (wordsOn l k) ≡ wordsOn l k
-waits-all l k p e =
+pub waits-all : (l : Channels) (k p n : ℕ) → n ≡ min (lenOf l k) 16 → n ≤ p → take p (wordsOn l k) ≡ wordsOn l k
+waits-all l k p n e h =
     take-all p (wordsOn l k) (omega (arith, length-take (lenOf l k) (row (l .items) k), length-take 16 (drop (k * 16) (l .items))))
+
+-- A place without a channel of the site, an empty channel, and one that is looked at.
+pub quiet-empty : (count : ℕ) (l : Channels) (k : ℕ) → lenOf l k ≡ 0 → true ≡ quietAt count l k
+quiet-empty count l k e = rw e (or-true (isChannel count k))
+  where
+    or-true : (b : Bool) → true ≡ (not b || true)
+    or-true true = refl
+    or-true false = refl
+
+pub quiet-none : (count : ℕ) (l : Channels) (k : ℕ) → isChannel count k ≡ false → true ≡ quietAt count l k
+quiet-none count l k e = rw e
+
+pub quiet-looked : (count : ℕ) (l : Channels) (k : ℕ) (b : Bool) → isChannel count k ≡ true → b ≡ waits (itemsOn l k) → not b ≡ quietAt count l k
+quiet-looked count l k b e q = rw (e, q)

@@ -1,4 +1,4 @@
--- What a recording shows is within the bounds of its layout: items, events, stocks and cars. Assumes nothing.
+-- What a recording shows is within the bounds of its layout: items, events, stocks and cars.
 use mathlib.Core.Path.{_≡_, refl, sym, _∙_, subst}
 use mathlib.Core.Bool.{Bool, true, false, cond, _&&_, not}
 use mathlib.Core.Logic.{inl, inr}
@@ -23,13 +23,13 @@ use Rattle.rules.proofs.History.{openH, now-run}
 use Rattle.rules.proofs.Kept.{fresh-open, calls-keep}
 use Rattle.rules.proofs.Lists.{All}
 use Rattle.rules.proofs.Tests.{and-left, Same, same?}
-use Rattle.channel.specs.Channels.{place}
+use Rattle.channel.specs.Channels.{place, isChannel}
 use Rattle.rules.specs.Below.{sumBelow, listBelow, sum}
 use Rattle.run.specs.Claims.{WholeRun}
 use Rattle.run.specs.Layout.{sendRecord}
 use Rattle.run.specs.Lists.{callOf}
-use Rattle.run.specs.Model.{siteOf, stocksOf}
-use Rattle.run.specs.State.{zoneAt, isChannel, isSound}
+use Rattle.run.specs.Model.{siteOf}
+use Rattle.run.specs.State.{zoneAt, isSound, countOf}
 use Rattle.run.specs.declared.Run.{Run}
 use Rattle.run.proofs.BelowLaws.{list-at, sum-same}
 use Rattle.run.proofs.Facts.{sum-at}
@@ -37,13 +37,15 @@ use Rattle.run.proofs.Outcome.{passed, is-open}
 use Rattle.run.proofs.Parts.{zone-on, SoundRun, parts}
 use Rattle.run.proofs.Refine.{refine}
 use Rattle.run.proofs.Whole.{call-whole, opened-whole}
-use Rattle.journal.specs.Owns.{ownNumbers}
+use Rattle.journal.specs.InnerOwns.{ownNumbers}
 use Rattle.journal.specs.Writing.{isReplayed, replaysTo}
 use Rattle.recording.specs.Call.{callsIn, snapshotOf}
 use Rattle.recording.specs.Layout.{joinBelow, channelWords, itemWords}
-use Rattle.recording.specs.Records.{isIn, sendsOn, sentWords, takenCount, itemsAt}
+use Rattle.recording.specs.InnerRecords.{isIn, sendsOn, sentWords, takenCount, itemsAt}
 use Rattle.recording.proofs.Chain.{Chain, done, next, chain}
-use Rattle.recording.proofs.Zones.{stocksAt, wordsAt, firstRun, firstSite, reached, first-site, site-is, calls-allowed, items-of}
+use Rattle.recording.proofs.Zones.{wordsAt, firstRun, firstSite, reached, first-site, site-is, calls-allowed, items-of}
+use Rattle.journal.specs.Format.{openedWith, openingStocks}
+use Rattle.run.specs.Opening.{openingOf}
 
 -- A word is sent on one channel at most, so all channels together have at most as many items as there are records.
 no-place : (n x : ℕ) (p : ℕ → Bool) → n ≤ x → sumBelow n (λ k. cond (eqb x k && p k) 1 0) ≡ 0
@@ -159,12 +161,12 @@ module _ (s : Site) (k m : ℕ) (now : s .zone k .stock ≤ m) (kept : savedStoc
   stock-step (start a) = on-keeps Few (eqb k a) started (s .zone k) (λ h. now) kept
 
 stock-now : (r : Run) → SoundRun r → (k : ℕ) → siteOf r .zone k .stock ≤ 65535
-stock-now r s k = go (ltb k (r .count)) refl
+stock-now r s k = go (ltb k (countOf (r .head))) refl
   where
-    go : (p : Bool) → ltb k (r .count) ≡ p → cond p (zoneAt (r .zones) k) (opened k 0) .stock ≤ 65535
+    go : (p : Bool) → ltb k (countOf (r .head)) ≡ p → cond p (zoneAt (r .head) k) (opened k 0) .stock ≤ 65535
     go true e =
-        let h = ltb-true k (r .count) e in
-        let q = sum-at (r .count) (λ i. siteOf r .zone i .stock) k h in
+        let h = ltb-true k (countOf (r .head)) e in
+        let q = sum-at (countOf (r .head)) (λ i. siteOf r .zone i .stock) k h in
         subst (λ (z : Local). z .stock ≤ 65535) (zone-on r k h) (omega (arith, s .cars))
     go false e = omega arith
 
@@ -198,15 +200,15 @@ module _ (r : Run) (w : WholeRun r) (e : isReplayed r ≡ true) where
 
   -- "number of items on lines (10)".
   items-below : (n : ℕ) → n ≤ 64
-      → length (joinBelow n (λ k. cond (isChannel (r .count) k) (channelWords (snapshotOf r) k) [])) ≤ length (wordsAt r)
+      → length (joinBelow n (λ k. cond (isChannel (countOf (r .head)) k) (channelWords (snapshotOf r) k) [])) ≤ length (wordsAt r)
   items-below n m =
       let ws = wordsAt r in
       let ns = ownNumbers ws (firstRun r) in
-      let shown : ℕ → List ℕ = λ k. cond (isChannel (r .count) k) (channelWords (snapshotOf r) k) [] in
+      let shown : ℕ → List ℕ = λ k. cond (isChannel (countOf (r .head)) k) (channelWords (snapshotOf r) k) [] in
       omega (
         arith,
         length-join n shown,
-        sum-le n (λ k. length (shown k)) (λ k. length (sentWords k shownList ws ns)) (λ k h. fewer k (omega arith) (isChannel (r .count) k)),
+        sum-le n (λ k. length (shown k)) (λ k. length (sentWords k shownList ws ns)) (λ k h. fewer k (omega arith) (isChannel (countOf (r .head)) k)),
         sent-few n shownList ws ns,
       )
     where
@@ -215,40 +217,40 @@ module _ (r : Run) (w : WholeRun r) (e : isReplayed r ≡ true) where
       fewer k h true = rw (items-at k h, length-drop) (omega arith)
       fewer k h false = omega arith
 
-  pub items-few : length (itemWords (r .count) (snapshotOf r)) ≤ r .records
+  pub items-few : length (itemWords (countOf (r .head)) (snapshotOf r)) ≤ r .head .records
   unfolding itemWords
   items-few =
-      subst (λ (n : ℕ). length (itemWords (r .count) (snapshotOf r)) ≤ n)
-      (length-take-le (r .records) (r .journal) (omega (arith, w .journal, run-sound .records))) (items-below 64 (omega arith))
+      subst (λ (n : ℕ). length (itemWords (countOf (r .head)) (snapshotOf r)) ≤ n)
+      (length-take-le (r .head .records) (r .journal) (omega (arith, w .journal, run-sound .records))) (items-below 64 (omega arith))
 
-  pub items-number : length (itemWords (r .count) (snapshotOf r)) < 1024
+  pub items-number : length (itemWords (countOf (r .head)) (snapshotOf r)) < 1024
   items-number = omega (arith, items-few, run-sound .records)
 
   -- "events (10)".
   pub events-few : (i : ℕ) → snapshotOf r .events i ≤ 1000
   events-few i =
-      let v = stocksOf (stocksAt r) in
+      let v = openingOf (openedWith r) in
       let cs = callsIn (wordsAt r) in
       let q : run cs (openS v) ≡ siteOf r = sym (site-is r w e) in
       let h = calls-keep Counts counts-kept cs (openH v) (fresh-open v) (calls-allowed r w e) (counts-open v) .past i in
       let past : eventsAt (siteOf r .zone i .checkpoint) ≤ siteOf r .zone i .events =
       subst (λ (s : Site). eventsAt (s .zone i .checkpoint) ≤ s .zone i .events) (now-run cs (openH v) ∙ q) h in
       subst (λ (s : Site). eventsOf (s .zone i .checkpoint) ≤ 1000) (site-is r w e)
-      (omega (arith, shown-events (siteOf r .zone i .checkpoint), now-few (ltb i (r .count)) refl))
+      (omega (arith, shown-events (siteOf r .zone i .checkpoint), now-few (ltb i (countOf (r .head))) refl))
     where
-      now-few : (p : Bool) → ltb i (r .count) ≡ p → siteOf r .zone i .events ≤ 1000
-      now-few true f = omega (arith, run-sound .events i (ltb-true i (r .count) f), run-sound .records)
+      now-few : (p : Bool) → ltb i (countOf (r .head)) ≡ p → siteOf r .zone i .events ≤ 1000
+      now-few true f = omega (arith, run-sound .events i (ltb-true i (countOf (r .head)) f), run-sound .records)
       now-few false f = rw f (omega arith)
 
   -- "a word of stock".
   pub stock-few : (i : ℕ) → snapshotOf r .park .stock i ≤ 65535
   stock-few i =
       let h = reached r w e in
-      let o = is-open (r .count) (stocksAt r) (h .opened) in
+      let o = is-open (openedWith r) (h .opened) in
       let c = chain (wordsAt r) 0 (firstRun r) (h .accepted) in
-      let v : getD (stocksAt r) i 0 ≤ 65535 = omega (arith, item-few (stocksAt r) i, o .cars) in
-      let s = saved-few c (opened-whole (r .count) (stocksAt r)) (λ k. subst (λ (x : Site). savedStock (x .zone k .checkpoint) ≤ 65535) (sym (first-site r w e)) (omega arith)) i in
-      shown-stock (run (callsIn (wordsAt r)) (firstSite r) .zone i .checkpoint) (getD (stocksAt r) i 0) 65535
+      let v : getD (openingStocks r) i 0 ≤ 65535 = omega (arith, item-few (openingStocks r) i, o .fits .cars) in
+      let s = saved-few c (opened-whole (openedWith r)) (λ k. subst (λ (x : Site). savedStock (x .zone k .checkpoint) ≤ 65535) (sym (first-site r w e)) (omega arith)) i in
+      shown-stock (run (callsIn (wordsAt r)) (firstSite r) .zone i .checkpoint) (getD (openingStocks r) i 0) 65535
       (subst (λ (x : Site). savedStock (x .zone i .checkpoint) ≤ 65535) (h .site ∙ site-is r w e) s) v
 
   -- The items on the channel at a place: the high byte is the place, and the cars are below 256.

@@ -1,33 +1,37 @@
--- Records that are accepted in turn: their calls lead by the rules from the site of the first run to that of the last. Assumes nothing.
+-- Records that are accepted in turn: their calls lead by the rules from the site of the first run to that of the last.
 use mathlib.Core.Path.{_≡_, refl, sym, _∙_, ap, subst}
 use mathlib.Core.Bool.{Bool, true, false}
 use mathlib.Core.List.{List, [], _∷_}
 use Prim.Native.Nat.{ℕ, _+_}
 use native.Mathlib.Omega.{arith}
 use Rattle.rules.specs.Cut.{Allowed, run}
-use Rattle.run.specs.Claims.{WholeRun, Typed, recordOf}
-use Rattle.run.specs.Lists.{SiteCall, answer, isAccepted}
+use Rattle.run.specs.Claims.{WholeRun, Typed}
+use Rattle.run.specs.Lists.{isAccepted}
 use Rattle.run.specs.Model.{siteOf}
 use Rattle.run.specs.declared.Run.{Run}
 use Rattle.run.proofs.Refine.{refine}
 use Rattle.run.proofs.Whole.{call-whole}
-use Rattle.journal.specs.Format.{Record, call, malformed, decode}
+use Rattle.journal.specs.Format.{decode}
 use Rattle.journal.specs.Reading.{replayed}
 use Rattle.journal.specs.declared.Reading.{Reading}
 use Rattle.journal.proofs.Words.{record-decoded}
 use Rattle.recording.specs.Call.{callsIn}
+use Rattle.run.specs.Calls.{recordOf, answer}
+use Rattle.run.specs.declared.SiteCall.{SiteCall}
+use Rattle.journal.specs.declared.Record.{Record}
+use Rattle.journal.specs.declared.Record.the-variants.{WellFormed, Malformed}
 
 -- The words are records of calls that are accepted in turn, and lead from the first run to the second.
 pub data Chain : List ℕ → Run → Run → Type 0 where
   done : {r : Run} → Chain [] r r
-  next : {w : ℕ} {ws : List ℕ} {r t : Run} (c : SiteCall) → decode w ≡ call c → recordOf c ≡ w → Typed c → isAccepted c r ≡ true
+  next : {w : ℕ} {ws : List ℕ} {r t : Run} (c : SiteCall) → decode w ≡ WellFormed c → recordOf c ≡ w → Typed c → isAccepted c r ≡ true
       → Chain ws (answer c r .run) t → Chain (w ∷ ws) r t
 
 pub chain : (ws : List ℕ) (position : ℕ) (r : Run) → replayed ws position r .refusal ≡ 0 → Chain ws r (replayed ws position r .run)
 chain [] position r e = done
 chain (w ∷ ws) position r e = by-record (decode w) refl (chain ws (position + 1))
   where
-    by-call : (c : SiteCall) (b : Bool) → decode w ≡ call c → isAccepted c r ≡ b
+    by-call : (c : SiteCall) (b : Bool) → decode w ≡ WellFormed c → isAccepted c r ≡ b
         → ((s : Run) → replayed ws (position + 1) s .refusal ≡ 0 → Chain ws s (replayed ws (position + 1) s .run))
         → Chain (w ∷ ws) r (replayed (w ∷ ws) position r .run)
     by-call c true d a more =
@@ -40,8 +44,8 @@ chain (w ∷ ws) position r e = by-record (decode w) refl (chain ws (position + 
     by-record : (x : Record) → decode w ≡ x
         → ((s : Run) → replayed ws (position + 1) s .refusal ≡ 0 → Chain ws s (replayed ws (position + 1) s .run))
         → Chain (w ∷ ws) r (replayed (w ∷ ws) position r .run)
-    by-record malformed d more = absurd (omega (arith, (rw d at e)))
-    by-record (call c) d more = by-call c (isAccepted c r) d refl more
+    by-record Malformed d more = absurd (omega (arith, (rw d at e)))
+    by-record (WellFormed c) d more = by-call c (isAccepted c r) d refl more
 
 -- The calls, as the rules have them, lead from site to site, each as the rules ask.
 pub leads : {ws : List ℕ} {r t : Run} → Chain ws r t → WholeRun r → (run (callsIn ws) (siteOf r) ≡ siteOf t) × Allowed (callsIn ws) (siteOf r)

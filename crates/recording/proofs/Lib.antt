@@ -7,3 +7,4 @@ pub mod Bounds
 pub mod Sized
 pub mod Shows
 pub mod Read
+pub mod Examples

@@ -1,4 +1,4 @@
--- The items of a recording by the rules are those that the journal's records and their own-event numbers show. Assumes nothing.
+-- The items of a recording by the rules are those that the journal's records and their own-event numbers show.
 use mathlib.Core.Path.{_≡_, refl, sym, _∙_, ap, ap₂}
 use mathlib.Core.Bool.{Bool, true, false, _&&_, and-false, true≢false}
 use mathlib.Core.Logic.{_⊎_, inl, inr}
@@ -16,32 +16,30 @@ use Rattle.rules.specs.Cut.{moves, snapshot}
 use Rattle.rules.specs.declared.Local.{Local}
 use Rattle.rules.proofs.Tests.{both-true, eqb-refl}
 use Rattle.channel.specs.Channels.{place}
-use Rattle.run.specs.Calls.{openCall}
-use Rattle.run.specs.Claims.{WholeRun, Typed, recordOf}
+use Rattle.run.specs.Calls.{recordOf, answer, actor}
+use Rattle.run.specs.Claims.{WholeRun, Typed}
 use Rattle.run.specs.Layout.{sendRecord, receiveRecord}
-use Rattle.run.specs.Lists.{SiteCall, Send, Receive, Start, answer, callOf, isAccepted, actor}
-use Rattle.run.specs.Model.{siteOf, stocksOf}
-use Rattle.run.specs.State.{zoneAt, openedRun}
+use Rattle.run.specs.Lists.{callOf, isAccepted}
+use Rattle.run.specs.Model.{siteOf}
+use Rattle.run.specs.State.{zoneAt, countOf}
 use Rattle.run.specs.declared.Answer.{Answer}
 use Rattle.run.specs.declared.Run.{Run}
-use Rattle.run.proofs.Outcome.{Passed, passed, is-open}
+use Rattle.run.proofs.Outcome.{acts, Passed, passed, is-open}
 use Rattle.run.proofs.Parts.{zone-on, parts}
 use Rattle.run.proofs.Refine.{refine, opened-site}
 use Rattle.run.proofs.Whole.{call-whole, opened-whole}
-use Rattle.journal.specs.Format.{call}
-use Rattle.journal.specs.Owns.{numberOf, ownNumber, ownNumbers}
+use Rattle.journal.specs.InnerOwns.{numberOf, ownNumber, ownNumbers}
 use Rattle.journal.specs.Reading.{replayed}
 use Rattle.recording.specs.Call.{callsIn}
 use Rattle.recording.specs.Layout.{channelWords}
-use Rattle.recording.specs.Records.{isIn, sendsOn, takesOn, sentWords, takenCount, itemsAt}
+use Rattle.recording.specs.InnerRecords.{isIn, sendsOn, takesOn, sentWords, takenCount, itemsAt}
 use Rattle.recording.proofs.Chain.{Chain, done, next, chain}
 use Rattle.recording.proofs.Moved.{eventsIn, actorOf, Quiet, Moved, sent-moved, start-quiet, received-moves, quiet-number, moved-number, insideRest, insideAll, quiet-inside, moved-inside}
-
--- The zone that acts in an accepted call is on the site.
-acts : (c : SiteCall) (r : Run) → Passed c r → actor c < r .count
-acts (Send from to cars) r p = p .asks .0 .from
-acts (Receive from to) r p = p .asks .0 .to
-acts (Start zone) r p = p .asks .0
+use Rattle.run.specs.Opening.{openCall, openedRun, openingOf}
+use Rattle.run.specs.declared.SiteCall.{SiteCall}
+use Rattle.run.specs.declared.SiteCall.the-variants.{Send, Receive, Start}
+use Rattle.run.specs.declared.Opening.{Opening}
+use Rattle.journal.specs.declared.Record.the-variants.{WellFormed}
 
 same-actor : (c : SiteCall) → actor c ≡ actorOf (callOf c)
 same-actor (Send from to cars) = refl
@@ -50,15 +48,15 @@ same-actor (Start zone) = refl
 
 -- The own-event number of an accepted call, by the rules.
 number-is : (c : SiteCall) (r : Run) → WholeRun r → Typed c → isAccepted c r ≡ true
-    → ownNumber (call c) r
+    → ownNumber (WellFormed c) r
     ≡ numberOf (eventsIn (siteOf r) (actorOf (callOf c))) (eventsIn (stepS (callOf c) (siteOf r)) (actorOf (callOf c)))
 number-is c r w t e =
     let p = passed c r e in
     let k = actor c in
     let h = acts c r p in
-    let q : answer c r .run .count ≡ r .count = ap (λ (x : Answer). x .run .count) (p .result) in
-    let before : zoneAt (r .zones) k .events ≡ eventsIn (siteOf r) k = ap (λ (z : Local). z .events) (sym (zone-on r k h)) in
-    let after : zoneAt (answer c r .run .zones) k .events ≡ eventsIn (stepS (callOf c) (siteOf r)) k =
+    let q : countOf (answer c r .run .head) ≡ countOf (r .head) = ap (λ (x : Answer). countOf (x .run .head)) (p .result) in
+    let before : zoneAt (r .head) k .events ≡ eventsIn (siteOf r) k = ap (λ (z : Local). z .events) (sym (zone-on r k h)) in
+    let after : zoneAt (answer c r .run .head) k .events ≡ eventsIn (stepS (callOf c) (siteOf r)) k =
     ap (λ (z : Local). z .events) (sym (zone-on (answer c r .run) k (omega arith))) ∙ ap (λ (s : Site). eventsIn s k) (refine c r w t e .0) in
     ap₂ numberOf before after
     ∙ ap (λ (k : ℕ). numberOf (eventsIn (siteOf r) k) (eventsIn (stepS (callOf c) (siteOf r)) k)) (same-actor c)
@@ -161,7 +159,7 @@ module _ (i j : ℕ) where
       abbrev Sends : SiteCall → Type 0
       Sends c =
           sentBy (insideAll shown (callOf c) cs (siteOf r))
-          ≡ cons-if (sendsOn (place i j) sh (recordOf c) (ownNumber (call c) r)) (recordOf c) (sentBy (insideRest shown (callOf c) cs (siteOf r)))
+          ≡ cons-if (sendsOn (place i j) sh (recordOf c) (ownNumber (WellFormed c) r)) (recordOf c) (sentBy (insideRest shown (callOf c) cs (siteOf r)))
 
       sends-first : (c : SiteCall) → Typed c → isAccepted c r ≡ true → Sends c
       sends-first (Send from to cars) t e =
@@ -177,7 +175,7 @@ module _ (i j : ℕ) where
           )
           (ap sentBy (moved-inside shown (send a b cars) cs (siteOf r) (hand a b cars) m) ∙ hand-sent a b cars _ _)
       sends-first (Receive from to) t e =
-          rw (no-send (recordOf (Receive from to)) (ownNumber (call (Receive from to)) r) (omega arith))
+          rw (no-send (recordOf (Receive from to)) (ownNumber (WellFormed (Receive from to)) r) (omega arith))
           (go (received-moves (index from) (index to) (siteOf r)))
         where
           a : ℕ
@@ -192,13 +190,13 @@ module _ (i j : ℕ) where
           go (inr q) = ap sentBy (moved-inside shown (receive a b) cs (siteOf r) (take a b) q)
               ∙ take-sent a b (isInside shown (eventsIn (siteOf r)) (take a b)) (insideRest shown (receive a b) cs (siteOf r))
       sends-first (Start zone) t e =
-          rw (no-send (recordOf (Start zone)) (ownNumber (call (Start zone)) r) (omega arith))
+          rw (no-send (recordOf (Start zone)) (ownNumber (WellFormed (Start zone)) r) (omega arith))
           (ap sentBy (quiet-inside shown (start (index zone)) cs (siteOf r) (start-quiet (index zone) (siteOf r))))
 
       abbrev Takes : SiteCall → Type 0
       Takes c =
           takes i j (insideAll shown (callOf c) cs (siteOf r))
-          ≡ on (takesOn (place i j) sh (recordOf c) (ownNumber (call c) r)) suc (takes i j (insideRest shown (callOf c) cs (siteOf r)))
+          ≡ on (takesOn (place i j) sh (recordOf c) (ownNumber (WellFormed c) r)) suc (takes i j (insideRest shown (callOf c) cs (siteOf r)))
 
       takes-first : (c : SiteCall) → Typed c → isAccepted c r ≡ true → Takes c
       takes-first (Send from to cars) t e =
@@ -207,7 +205,7 @@ module _ (i j : ℕ) where
           let m = sent-moved a b cars (siteOf r) in
           let p = passed (Send from to cars) r e in
           let few = parts r (p .sound) .most in
-          rw (no-take (sendRecord a b cars) (ownNumber (call (Send from to cars)) r) (inl (omega (arith, p .asks .0 .from, p .asks .0 .to))))
+          rw (no-take (sendRecord a b cars) (ownNumber (WellFormed (Send from to cars)) r) (inl (omega (arith, p .asks .0 .from, p .asks .0 .to))))
           (ap (takes i j) (moved-inside shown (send a b cars) cs (siteOf r) (hand a b cars) m)
           ∙ hand-taken a b cars (isInside shown (eventsIn (siteOf r)) (hand a b cars)) (insideRest shown (send a b cars) cs (siteOf r)))
       takes-first (Receive from to) t e = go (received-moves (index from) (index to) (siteOf r))
@@ -234,7 +232,7 @@ module _ (i j : ℕ) where
               (ap (takes i j) (moved-inside shown (receive a b) cs (siteOf r) (take a b) q)
               ∙ take-taken a b (isInside shown (eventsIn (siteOf r)) (take a b)) (insideRest shown (receive a b) cs (siteOf r)))
       takes-first (Start zone) t e =
-          rw (no-take (recordOf (Start zone)) (ownNumber (call (Start zone)) r) (inr (omega arith)))
+          rw (no-take (recordOf (Start zone)) (ownNumber (WellFormed (Start zone)) r) (inr (omega arith)))
           (ap (takes i j) (quiet-inside shown (start (index zone)) cs (siteOf r) (start-quiet (index zone) (siteOf r))))
 
     -- Records that are accepted in turn.
@@ -246,7 +244,7 @@ module _ (i j : ℕ) where
         let h = sent-are more (call-whole c r w) in
         rw (d, a, ← f)
         (sends-first r w (callsIn ws) c typed a
-        ∙ ap (cons-if (sendsOn (place i j) sh (recordOf c) (ownNumber (call c) r)) (recordOf c))
+        ∙ ap (cons-if (sendsOn (place i j) sh (recordOf c) (ownNumber (WellFormed c) r)) (recordOf c))
         (ap (λ (s : Site). sentBy (insideOf shown ws s)) (sym q) ∙ h))
 
     pub taken-are : {ws : List ℕ} {r t : Run} → Chain ws r t → WholeRun r
@@ -257,7 +255,7 @@ module _ (i j : ℕ) where
         let h = taken-are more (call-whole c r w) in
         rw (d, a, ← f)
         (takes-first r w (callsIn ws) c typed a
-        ∙ ap (on (takesOn (place i j) sh (recordOf c) (ownNumber (call c) r)) suc)
+        ∙ ap (on (takesOn (place i j) sh (recordOf c) (ownNumber (WellFormed c) r)) suc)
         (ap (λ (s : Site). takes i j (insideOf shown ws s)) (sym q) ∙ h))
 
 map-drop : {A B : Type 0} (f : A → B) (n : ℕ) (xs : List A) → map f (drop n xs) ≡ drop n (map f xs)
@@ -266,26 +264,25 @@ map-drop f (suc n) [] = refl
 map-drop f (suc n) (x ∷ xs) = map-drop f n xs
 
 -- From an accepted opening: the items on the channel at a place.
-pub items-are : (count : ℕ) (stocks ws : List ℕ) (position : ℕ) → openCall count stocks .refusal ≡ 0
-    → replayed ws position (openedRun count stocks) .refusal ≡ 0 → (sh : List ℕ)
+pub items-are : (o : Opening) (ws : List ℕ) (position : ℕ) → openCall o .refusal ≡ 0
+    → replayed ws position (openedRun o) .refusal ≡ 0 → (sh : List ℕ)
     → (k : ℕ) → k < 64
-    → getD sh (k / 8) 0 ≡ snapshot (stocksOf stocks) (callsIn ws) .events (k / 8)
-    → getD sh (k % 8) 0 ≡ snapshot (stocksOf stocks) (callsIn ws) .events (k % 8)
-    → itemsAt k sh ws (ownNumbers ws (openedRun count stocks)) ≡ channelWords (snapshot (stocksOf stocks) (callsIn ws)) k
-items-are count stocks ws position o e sh k h fi fj =
+    → getD sh (k / 8) 0 ≡ snapshot (openingOf o) (callsIn ws) .events (k / 8)
+    → getD sh (k % 8) 0 ≡ snapshot (openingOf o) (callsIn ws) .events (k % 8)
+    → itemsAt k sh ws (ownNumbers ws (openedRun o)) ≡ channelWords (snapshot (openingOf o) (callsIn ws)) k
+items-are o ws position a e sh k h fi fj =
     let i = k / 8 in
     let j = k % 8 in
     let hi : i < 8 = omega arith in
     let hj : j < 8 = omega arith in
-    let shown = snapshot (stocksOf stocks) (callsIn ws) .events in
-    let first = openS (stocksOf stocks) in
-    let c = chain ws position (openedRun count stocks) e in
-    let w = opened-whole count stocks in
-    let opened = is-open count stocks o in
-    let site = opened-site count stocks (opened .most) (opened .lengths) in
+    let shown = snapshot (openingOf o) (callsIn ws) .events in
+    let first = openS (openingOf o) in
+    let c = chain ws position (openedRun o) e in
+    let w = opened-whole o in
+    let site = opened-site o (is-open o a .fits) in
     let f : place i j ≡ k = omega arith in
     sym (map-drop (sendRecord i j) (takes i j (insideOf shown ws first)) (hands i j (insideOf shown ws first))
     ∙ ap₂ (λ (n : ℕ) (xs : List ℕ). drop n xs)
     (ap (λ (s : Site). takes i j (insideOf shown ws s)) (sym site) ∙ taken-are i j shown sh hi hj fi fj c w)
     (ap (λ (s : Site). sentBy i j (insideOf shown ws s)) (sym site) ∙ sent-are i j shown sh hi hj fi fj c w)
-    ∙ ap (λ (k : ℕ). itemsAt k sh ws (ownNumbers ws (openedRun count stocks))) f)
+    ∙ ap (λ (k : ℕ). itemsAt k sh ws (ownNumbers ws (openedRun o))) f)

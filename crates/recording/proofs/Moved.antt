@@ -1,4 +1,4 @@
--- What a call adds to the own events of zones: one for the zone whose move it is, and nothing where it is no move. Assumes nothing.
+-- What a call adds to the own events of zones: one for the zone whose move it is, and nothing where it is no move.
 use mathlib.Core.Path.{_≡_, refl, sym, _∙_, ap}
 use mathlib.Core.Bool.{Bool, not}
 use mathlib.Core.Logic.{_⊎_, inl, inr}
@@ -16,7 +16,7 @@ use Rattle.rules.specs.Cut.{moveOf, moves}
 use Rattle.rules.specs.declared.Local.{Local}
 use Rattle.rules.proofs.Guarded.{on-same, on-map}
 use Rattle.rules.proofs.Tests.{eqb-refl}
-use Rattle.journal.specs.Owns.{numberOf}
+use Rattle.journal.specs.InnerOwns.{numberOf}
 
 -- The own events of each zone.
 abbrev pub eventsIn : Site → ℕ → ℕ

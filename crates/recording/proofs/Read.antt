@@ -1,4 +1,4 @@
--- The recording of a run that was read from a journal is never refused with 1, and with 2,034 bytes never with 14. Assumes nothing.
+-- The recording of a run that was read from a journal is never refused with 1, and with 2,034 bytes never with 14.
 use mathlib.Core.Path.{_≡_, refl, sym, subst}
 use mathlib.Core.Bool.{Bool, true, false, cond}
 use mathlib.Core.Logic.{_≢_}
@@ -9,16 +9,17 @@ use lib.Dec.{leb}
 use lib.ListN.{length}
 use borrow.Author.Tests.{le-leb}
 use Rattle.run.specs.Claims.{WholeRun}
-use Rattle.run.specs.State.{hasStarted}
+use Rattle.run.specs.State.{hasStarted, termsOf, countOf}
 use Rattle.run.specs.declared.Run.{Run}
 use Rattle.run.proofs.Whole.{after-whole, open-whole}
 use Rattle.journal.specs.Format.{callsIn}
-use Rattle.journal.specs.Reading.{zonesOf, stocksIn, recordsIn, readCall}
+use Rattle.journal.specs.Reading.{recordsIn, readCall, openingIn}
 use Rattle.journal.specs.Writing.{Output, refusedOutput, writtenOutput}
 use Rattle.journal.proofs.Accepted.{read-comes, read-replayed}
 use Rattle.recording.specs.Call.{noRequests, snapshotOf, recordCall}
 use Rattle.recording.specs.Layout.{recordingBytes}
 use Rattle.recording.proofs.Sized.{recording-most}
+use Rattle.run.specs.Calls.{answer}
 
 -- What is left of the recording call's questions.
 abbrev asked : Bool → Bool → Bool → List ℕ → Output → Output
@@ -40,20 +41,20 @@ module _ (bytes lent : List ℕ) (e : readCall bytes .refusal ≡ 0) where
   read = readCall bytes .run
 
   abbrev shown : List ℕ
-  shown = recordingBytes (read .count) (snapshotOf read)
+  shown = recordingBytes (termsOf (read .head)) (snapshotOf read)
 
   pub read-never-1 : recordCall read lent .answer .refusal ≢ 1
   unfolding recordCall
   read-never-1 =
       rw (read-replayed bytes e)
-      (never-1 (hasStarted (read .count) (read .zones)) (noRequests (read .count) (read .channels)) (leb (length shown) (length lent)) lent (writtenOutput lent shown) refl)
+      (never-1 (hasStarted (read .head)) (noRequests (countOf (read .head)) (read .channels)) (leb (length shown) (length lent)) lent (writtenOutput lent shown) refl)
 
-  whole : WholeRun read
-  whole = let h = read-comes bytes e in subst WholeRun (sym (h .result)) (after-whole (callsIn (recordsIn bytes)) _ (open-whole (zonesOf bytes) (stocksIn bytes)))
+  pub read-whole : WholeRun read
+  read-whole = let h = read-comes bytes e in subst WholeRun (sym (h .result)) (after-whole (callsIn (recordsIn bytes)) _ (open-whole (openingIn bytes)))
 
   pub read-never-14 : 2034 ≤ length lent → recordCall read lent .answer .refusal ≢ 14
   unfolding recordCall
   read-never-14 h =
-      let m = recording-most read whole (read-replayed bytes e) in
+      let m = recording-most read read-whole (read-replayed bytes e) in
       rw (read-replayed bytes e, le-leb (length shown) (length lent) (omega (arith, m, h)))
-      (never-14 (hasStarted (read .count) (read .zones)) (noRequests (read .count) (read .channels)) lent (writtenOutput lent shown) refl)
+      (never-14 (hasStarted (read .head)) (noRequests (countOf (read .head)) (read .channels)) lent (writtenOutput lent shown) refl)

@@ -1,4 +1,4 @@
--- The bytes of a recording show the recording of the rules, whatever stands behind them. Assumes nothing.
+-- The bytes of a recording show the recording of the rules, whatever stands behind them.
 use mathlib.Core.Path.{_≡_, refl, sym, _∙_, ap, ap₂, subst}
 use mathlib.Core.Bool.{Bool, true, false, cond, _&&_, and-false, true≢false}
 use mathlib.Core.Logic.{_≢_, _⊎_, inl, inr}
@@ -18,20 +18,19 @@ use Rattle.rules.specs.Cut.{Snapshot, Cut, run, moves, taking, eventsOf, stockO
 use Rattle.rules.proofs.Consistency.{consistent}
 use Rattle.rules.proofs.Lists.{All}
 use Rattle.rules.proofs.Tests.{both-true, eqb-refl}
-use Rattle.channel.specs.Channels.{place}
+use Rattle.channel.specs.Channels.{place, isChannel}
 use Rattle.run.specs.Claims.{WholeRun}
 use Rattle.run.specs.Layout.{sendRecord}
-use Rattle.run.specs.Model.{stocksOf}
-use Rattle.run.specs.State.{isChannel, hasStarted, openedRun}
+use Rattle.run.specs.State.{hasStarted, countOf, termsOf}
 use Rattle.run.specs.declared.Answer.{Answer}
 use Rattle.run.specs.declared.Run.{Run}
 use Rattle.run.proofs.BelowLaws.{split}
 use Rattle.run.proofs.Outcome.{Pair, Sited, sited, passed, is-open}
 use Rattle.run.proofs.Parts.{onSite, between, on-site}
-use Rattle.journal.specs.Bytes.{wordAt, wordsFrom}
-use Rattle.journal.specs.Format.{headerWord, zonesIn, numberIn}
+use Rattle.words.specs.Bytes.{wordAt, wordsFrom}
+use Rattle.journal.specs.Format.{openedWith, openingStocks, headerOf}
 use Rattle.journal.specs.Writing.{isReplayed}
-use Rattle.journal.proofs.ByteLaws.{word-read, words-read-from}
+use Rattle.words.proofs.ByteLaws.{word-read, words-read-from}
 use Rattle.journal.proofs.Words.{header-fields}
 use Rattle.recording.specs.Call.{callsIn, snapshotOf, noRequests}
 use Rattle.recording.specs.Layout.{joinBelow, zoneWords, channelWords, itemWords, recordingWords, recordingBytes}
@@ -40,7 +39,10 @@ use Rattle.recording.proofs.Bounds.{run-sound, items-number, events-few
 use Rattle.recording.proofs.Chain.{Chain, done, next, chain}
 use Rattle.recording.proofs.Complete.{complete-if}
 use Rattle.recording.proofs.Sized.{zones-length}
-use Rattle.recording.proofs.Zones.{stocksAt, wordsAt, firstRun, firstSite, reached, site-is, calls-allowed}
+use Rattle.recording.proofs.Zones.{wordsAt, firstRun, firstSite, reached, site-is, calls-allowed}
+use Rattle.run.specs.Opening.{openedRun, openingOf}
+use Rattle.words.specs.Header.{zonesIn, numberIn}
+use Rattle.run.specs.declared.Terms.{Terms}
 
 -- What the layout asks of a recording of a site of so many zones: its fields have room, and it shows nothing that the site does not have.
 pub record Fits (count : ℕ) (s : Snapshot) : Type 0 where
@@ -126,31 +128,35 @@ event-bits : (b : Bool) (n : ℕ) → n < 1024 → (cond b 32768 0 + n) % 1024 �
 event-bits true n h = omega arith
 event-bits false n h = omega arith
 
-module _ (count : ℕ) (s : Snapshot) (fits : Fits count s) (on : (k : ℕ) → k < 64 → All (λ w. w / 256 ≡ k) (channelWords s k)) (rest : List ℕ) where
+module _ (t : Terms) (s : Snapshot) (fits : Fits (t .count) s) (on : (k : ℕ) → k < 64 → All (λ w. w / 256 ≡ k) (channelWords s k)) (rest : List ℕ) where
+  abbrev count : ℕ
+  count = t .count
+
   shownBytes : List ℕ
-  shownBytes = recordingBytes count s ++ rest
+  shownBytes = recordingBytes t s ++ rest
 
   -- The word at a place of the recording.
-  word-at : (k : ℕ) → k < length (recordingWords count s) → wordAt shownBytes (2 * k) ≡ getD (recordingWords count s) k 0
+  word-at : (k : ℕ) → k < length (recordingWords t s) → wordAt shownBytes (2 * k) ≡ getD (recordingWords t s) k 0
   unfolding shownBytes recordingBytes
-  word-at k h = word-read (recordingWords count s) rest k h
+  word-at k h = word-read (recordingWords t s) rest k h
 
-  words-number : length (recordingWords count s) ≡ 1 + 2 * count + length (itemWords count s)
+  words-number : length (recordingWords t s) ≡ 1 + 2 * count + length (itemWords count s)
   words-number = omega (arith, length-append (joinBelow count (zoneWords s)) (itemWords count s), zones-length count s)
 
-  header : wordAt shownBytes 0 ≡ headerWord count (length (itemWords count s))
+  header : wordAt shownBytes 0 ≡ headerOf t (length (itemWords count s))
   header = word-at 0 (omega (arith, words-number))
 
   zones-are : zonesIn (wordAt shownBytes 0) ≡ count
-  zones-are = ap zonesIn header ∙ header-fields count (length (itemWords count s)) (fits .fewest) (fits .most) (fits .number) .count
+  zones-are = ap zonesIn header
+      ∙ ap (λ (t : Terms). t .count) (header-fields t (length (itemWords count s)) (fits .fewest) (fits .most) (fits .number) .terms)
 
   number-are : numberIn (wordAt shownBytes 0) ≡ length (itemWords count s)
-  number-are = ap numberIn header ∙ header-fields count (length (itemWords count s)) (fits .fewest) (fits .most) (fits .number) .number
+  number-are = ap numberIn header ∙ header-fields t (length (itemWords count s)) (fits .fewest) (fits .most) (fits .number) .number
 
   items-read : itemsIn shownBytes ≡ itemWords count s
   unfolding shownBytes recordingBytes
   items-read =
-      let front = headerWord count (length (itemWords count s)) ∷ joinBelow count (zoneWords s) in
+      let front = headerOf t (length (itemWords count s)) ∷ joinBelow count (zoneWords s) in
       let e : 2 + 4 * zonesIn (wordAt shownBytes 0) ≡ 2 * length front = omega (arith, zones-are, zones-length count s) in
       ap₂ (wordsFrom shownBytes) e number-are ∙ words-read-from front (itemWords count s) rest
 
@@ -220,7 +226,7 @@ module _ (count : ℕ) (s : Snapshot) (fits : Fits count s) (on : (k : ℕ) → 
           off true o = let b = between count i j o in let h = ltb-false i 8 e in absurd (omega (arith, fits .most))
           off false o = refl
 
-  pub shown-is : shownIn (recordingBytes count s ++ rest) ≡ s
+  pub shown-is : shownIn (recordingBytes t s ++ rest) ≡ s
   unfolding shownBytes
   shown-is = λ x. record {
     recorded = λ k. recorded-read k x;
@@ -229,11 +235,11 @@ module _ (count : ℕ) (s : Snapshot) (fits : Fits count s) (on : (k : ℕ) → 
   }
 
 -- Calls between zones of the site hand nothing over where it has no channel.
-calls-sited : {ws : List ℕ} {r t : Run} → Chain ws r t → All (Sited (r .count)) (callsIn ws)
+calls-sited : {ws : List ℕ} {r t : Run} → Chain ws r t → All (Sited (countOf (r .head))) (callsIn ws)
 calls-sited done = tt
 calls-sited (next {ws = ws} {r} c d f typed a more) =
     let p = passed c r a in
-    rw d (sited c r p, subst (λ (x : Answer). All (Sited (x .run .count)) (callsIn ws)) (p .result) (calls-sited more))
+    rw d (sited c r p, subst (λ (x : Answer). All (Sited (countOf (x .run .head))) (callsIn ws)) (p .result) (calls-sited more))
 
 module _ (count i j : ℕ) (most : count ≤ 8) (off : onSite count i j ≡ false) where
   abbrev Elsewhere : Move → Type 0
@@ -273,14 +279,14 @@ module _ (count i j : ℕ) (most : count ≤ 8) (off : onSite count i j ≡ fals
   moves-elsewhere (start a ∷ cs) s h = moves-elsewhere cs (stepS (start a) s) (h .1)
 
 module _ (r : Run) (w : WholeRun r) (e : isReplayed r ≡ true) where
-  all-sited : All (Sited (r .count)) (callsIn (wordsAt r))
+  all-sited : All (Sited (countOf (r .head))) (callsIn (wordsAt r))
   unfolding openedRun
   all-sited = calls-sited (chain (wordsAt r) 0 (firstRun r) (reached r w e .accepted))
 
-  lengths : length (stocksAt r) ≡ r .count
-  lengths = is-open (r .count) (stocksAt r) (reached r w e .opened) .lengths
+  lengths : length (openingStocks r) ≡ countOf (r .head)
+  lengths = is-open (openedWith r) (reached r w e .opened) .fits .lengths
 
-  snapshot-fits : Fits (r .count) (snapshotOf r)
+  snapshot-fits : Fits (countOf (r .head)) (snapshotOf r)
   snapshot-fits =
       let s = run-sound r w e in
       let site = sym (site-is r w e) in
@@ -293,23 +299,23 @@ module _ (r : Run) (w : WholeRun r) (e : isReplayed r ≡ true) where
         number = items-number r w e;
         events = λ k. omega (arith, events-few r w e k);
         cars = cars-few r w e;
-        recorded-off = λ k h. ap (λ (s : Site). isPermanent (s .zone k .checkpoint)) site ∙ rw (le-ltb k (r .count) h);
-        events-off = λ k h. ap (λ (s : Site). eventsOf (s .zone k .checkpoint)) site ∙ rw (le-ltb k (r .count) h);
-        stock-off = λ k h. ap (λ (s : Site). stockOf (s .zone k .checkpoint) (getD (stocksAt r) k 0)) site
-            ∙ rw (le-ltb k (r .count) h) (List·getD-eq-default (stocksAt r) 0 (omega (arith, lengths)));
+        recorded-off = λ k h. ap (λ (s : Site). isPermanent (s .zone k .checkpoint)) site ∙ rw (le-ltb k (countOf (r .head)) h);
+        events-off = λ k h. ap (λ (s : Site). eventsOf (s .zone k .checkpoint)) site ∙ rw (le-ltb k (countOf (r .head)) h);
+        stock-off = λ k h. ap (λ (s : Site). stockOf (s .zone k .checkpoint) (getD (openingStocks r) k 0)) site
+            ∙ rw (le-ltb k (countOf (r .head)) h) (List·getD-eq-default (openingStocks r) 0 (omega (arith, lengths)));
         channel-off = λ i j o. ap (drop (takes i j ms))
-            (none-handed (r .count) i j (s .most) o (snapshotOf r .events) (λ k. 0) (moves cs first)
-            (moves-elsewhere (r .count) i j (s .most) o cs first all-sited))
+            (none-handed (countOf (r .head)) i j (s .most) o (snapshotOf r .events) (λ k. 0) (moves cs first)
+            (moves-elsewhere (countOf (r .head)) i j (s .most) o cs first all-sited))
             ∙ drop-nil (takes i j ms);
       }
 
   -- The bytes that are written, and what is behind them, show the recording of the rules.
-  pub recording-shows : (rest : List ℕ) → shownIn (recordingBytes (r .count) (snapshotOf r) ++ rest) ≡ snapshotOf r
-  recording-shows rest = shown-is (r .count) (snapshotOf r) snapshot-fits (words-on r w e) rest
+  pub recording-shows : (rest : List ℕ) → shownIn (recordingBytes (termsOf (r .head)) (snapshotOf r) ++ rest) ≡ snapshotOf r
+  recording-shows rest = shown-is (termsOf (r .head)) (snapshotOf r) snapshot-fits (words-on r w e) rest
 
   -- So demand 3 holds of what they show, once questions 12 and 13 are answered yes.
-  pub recording-cuts : hasStarted (r .count) (r .zones) ≡ true → noRequests (r .count) (r .channels) ≡ true → (rest : List ℕ)
-      → Cut (stocksOf (stocksAt r)) (callsIn (wordsAt r)) (shownIn (recordingBytes (r .count) (snapshotOf r) ++ rest))
+  pub recording-cuts : hasStarted (r .head) ≡ true → noRequests (countOf (r .head)) (r .channels) ≡ true → (rest : List ℕ)
+      → Cut (openingOf (openedWith r)) (callsIn (wordsAt r)) (shownIn (recordingBytes (termsOf (r .head)) (snapshotOf r) ++ rest))
   recording-cuts s q rest =
-      subst (Cut (stocksOf (stocksAt r)) (callsIn (wordsAt r))) (sym (recording-shows rest))
-      (consistent (stocksOf (stocksAt r)) (callsIn (wordsAt r)) (calls-allowed r w e) (complete-if r w e s q))
+      subst (Cut (openingOf (openedWith r)) (callsIn (wordsAt r))) (sym (recording-shows rest))
+      (consistent (openingOf (openedWith r)) (callsIn (wordsAt r)) (calls-allowed r w e) (complete-if r w e s q))

@@ -1,5 +1,5 @@
 -- A run that question 1 passes for recording stands where its opening and the calls of its records lead by the rules, so that its zones
--- and its records show the recording of the rules. Assumes nothing.
+-- and its records show the recording of the rules.
 use mathlib.Core.Path.{_≡_, refl, sym, _∙_, ap, ap₂, subst}
 use mathlib.Core.Bool.{Bool, true, false, cond, _&&_, not}
 use mathlib.Core.List.{List, [], _∷_, _++_}
@@ -14,18 +14,17 @@ use Rattle.rules.specs.Site.{Site, openS}
 use Rattle.rules.specs.Cut.{Allowed, run, eventsOf, stockOf}
 use Rattle.rules.specs.declared.Local.{Local}
 use Rattle.rules.proofs.Tests.{and-left, and-right}
-use Rattle.run.specs.Calls.{openCall}
 use Rattle.run.specs.Claims.{WholeRun}
-use Rattle.run.specs.Model.{siteOf, stocksOf}
-use Rattle.run.specs.State.{zoneAt, isChannel, openedRun}
+use Rattle.run.specs.Model.{siteOf}
+use Rattle.run.specs.State.{zoneAt, countOf}
 use Rattle.run.specs.declared.Run.{Run}
 use Rattle.run.proofs.Outcome.{is-open}
 use Rattle.run.proofs.Parts.{zone-on}
 use Rattle.run.proofs.Refine.{opened-site}
 use Rattle.run.proofs.Whole.{opened-whole}
-use Rattle.journal.specs.Format.{journalBytes}
-use Rattle.journal.specs.Owns.{ownNumbers}
-use Rattle.journal.specs.Reading.{replayed, zonesOf, stocksIn, recordsIn, readCall}
+use Rattle.journal.specs.Format.{journalBytes, openedWith, recordWords}
+use Rattle.journal.specs.InnerOwns.{ownNumbers}
+use Rattle.journal.specs.Reading.{replayed, recordsIn, readCall, openingIn}
 use Rattle.journal.specs.Writing.{isReplayed}
 use Rattle.journal.specs.declared.Reading.{Reading}
 use Rattle.journal.proofs.Accepted.{read-comes, read-tells}
@@ -33,26 +32,26 @@ use Rattle.journal.proofs.Front.{begins-read, read-begins}
 use Rattle.journal.proofs.Same.{same-read, same-run, same-site}
 use Rattle.recording.specs.Call.{callsIn, snapshotOf}
 use Rattle.recording.specs.Layout.{joinBelow, zoneWords, channelWords, itemWords}
-use Rattle.recording.specs.Records.{itemsAt}
+use Rattle.recording.specs.InnerRecords.{itemsAt}
 use Rattle.recording.proofs.Chain.{chain, leads}
 use Rattle.recording.proofs.Link.{items-are}
+use Rattle.run.specs.Opening.{openCall, openedRun, openingAs, openingOf}
+use Rattle.channel.specs.Channels.{isChannel}
+use Rattle.run.specs.declared.Opening.{Opening}
 
--- The opening stocks of a run's zones, its records, and the site of that opening.
-abbrev pub stocksAt : Run → List ℕ
-stocksAt r = take (r .count) (r .opening)
-
+-- The records of a run, its first run, and the site of its opening.
 abbrev pub wordsAt : Run → List ℕ
-wordsAt r = take (r .records) (r .journal)
+wordsAt r = recordWords r
 
 abbrev pub firstRun : Run → Run
-firstRun r = openedRun (r .count) (stocksAt r)
+firstRun r = openedRun (openedWith r)
 
 abbrev pub firstSite : Run → Site
-firstSite r = openS (stocksOf (stocksAt r))
+firstSite r = openS (openingOf (openedWith r))
 
 -- The opening is accepted, then the records in turn, and they lead to the same site.
 pub record Reached (r : Run) : Type 0 where
-  pub opened : openCall (r .count) (stocksAt r) .refusal ≡ 0
+  pub opened : openCall (openedWith r) .refusal ≡ 0
   pub accepted : replayed (wordsAt r) 0 (firstRun r) .refusal ≡ 0
   pub site : siteOf (replayed (wordsAt r) 0 (firstRun r) .run) ≡ siteOf r
 
@@ -62,16 +61,14 @@ reached r w e =
     let ok = same-read r w e in
     let same = same-run r w e in
     let tells = read-tells bytes ok in
-    let count : zonesOf bytes ≡ r .count = sym (tells .count) ∙ same .count in
-    let stocks : stocksIn bytes ≡ stocksAt r =
-    sym (tells .opening) ∙ ap (λ (n : ℕ). take n (readCall bytes .run .opening)) count ∙ same .opening in
-    let words : recordsIn bytes ≡ wordsAt r =
-    sym (tells .records) ∙ ap (λ (n : ℕ). take n (readCall bytes .run .journal)) (same .records) ∙ same .journal in
+    let opening : openingIn bytes ≡ openedWith r =
+    sym (tells .opening) ∙ ap₂ openingAs (same .terms) (same .opening) in
+    let words : recordsIn bytes ≡ wordsAt r = sym (tells .records) ∙ same .journal in
     let read : readCall bytes ≡ replayed (wordsAt r) 0 (firstRun r) =
     begins-read bytes (read-begins bytes ok)
-    ∙ ap₂ (λ (ws : List ℕ) (t : Run). replayed ws 0 t) words (ap₂ openedRun count stocks) in
+    ∙ ap₂ (λ (ws : List ℕ) (o : Opening). replayed ws 0 (openedRun o)) words opening in
     record {
-      opened = ap₂ (λ (n : ℕ) (v : List ℕ). openCall n v .refusal) (sym count) (sym stocks) ∙ read-comes bytes ok .opened;
+      opened = ap (λ (o : Opening). openCall o .refusal) (sym opening) ∙ read-comes bytes ok .opened;
       accepted = ap (λ (x : Reading). x .refusal) (sym read) ∙ ok;
       site = ap (λ (x : Reading). siteOf (x .run)) (sym read) ∙ same-site r w e;
     }
@@ -94,12 +91,12 @@ wordsOf z opening =
 
 module _ (r : Run) (w : WholeRun r) (e : isReplayed r ≡ true) where
   pub first-site : siteOf (firstRun r) ≡ firstSite r
-  first-site = let o = is-open (r .count) (stocksAt r) (reached r w e .opened) in opened-site (r .count) (stocksAt r) (o .most) (o .lengths)
+  first-site = opened-site (openedWith r) (is-open (openedWith r) (reached r w e .opened) .fits)
 
   led : (run (callsIn (wordsAt r)) (firstSite r) ≡ siteOf r) × Allowed (callsIn (wordsAt r)) (firstSite r)
   led =
       let h = reached r w e in
-      let (q, a) = leads (chain (wordsAt r) 0 (firstRun r) (h .accepted)) (opened-whole (r .count) (stocksAt r)) in
+      let (q, a) = leads (chain (wordsAt r) 0 (firstRun r) (h .accepted)) (opened-whole (openedWith r)) in
       subst (λ (s : Site). (run (callsIn (wordsAt r)) s ≡ siteOf r) × Allowed (callsIn (wordsAt r)) s) first-site (q ∙ h .site, a)
 
   -- The site of the run, by the rules, and the calls as the rules ask.
@@ -110,18 +107,18 @@ module _ (r : Run) (w : WholeRun r) (e : isReplayed r ≡ true) where
   calls-allowed = led .1
 
   -- What the recording shows of a zone of the site.
-  zone-is : (i : ℕ) → i < r .count → run (callsIn (wordsAt r)) (firstSite r) .zone i ≡ zoneAt (r .zones) i
+  zone-is : (i : ℕ) → i < countOf (r .head) → run (callsIn (wordsAt r)) (firstSite r) .zone i ≡ zoneAt (r .head) i
   zone-is i h = ap (λ (s : Site). s .zone i) (led .0) ∙ zone-on r i h
 
-  pub recorded-is : (i : ℕ) → i < r .count → snapshotOf r .recorded i ≡ isPermanent (zoneAt (r .zones) i .checkpoint)
+  pub recorded-is : (i : ℕ) → i < countOf (r .head) → snapshotOf r .recorded i ≡ isPermanent (zoneAt (r .head) i .checkpoint)
   recorded-is i h = ap (λ (z : Local). isPermanent (z .checkpoint)) (zone-is i h)
 
-  pub events-are : (i : ℕ) → i < r .count → snapshotOf r .events i ≡ eventsOf (zoneAt (r .zones) i .checkpoint)
+  pub events-are : (i : ℕ) → i < countOf (r .head) → snapshotOf r .events i ≡ eventsOf (zoneAt (r .head) i .checkpoint)
   events-are i h = ap (λ (z : Local). eventsOf (z .checkpoint)) (zone-is i h)
 
-  pub stock-is : (i : ℕ) → i < r .count
-      → snapshotOf r .park .stock i ≡ stockOf (zoneAt (r .zones) i .checkpoint) (getD (r .opening) i 0)
-  stock-is i h = ap₂ (λ (z : Local) (v : ℕ). stockOf (z .checkpoint) v) (zone-is i h) (getD-take (r .count) (r .opening) i 0 h)
+  pub stock-is : (i : ℕ) → i < countOf (r .head)
+      → snapshotOf r .park .stock i ≡ stockOf (zoneAt (r .head) i .checkpoint) (getD (r .head .opening .stocks) i 0)
+  stock-is i h = ap₂ (λ (z : Local) (v : ℕ). stockOf (z .checkpoint) v) (zone-is i h) (getD-take (countOf (r .head)) (r .head .opening .stocks) i 0 h)
 
   -- The items on the channel at a place, where sh lists the events shown of its two zones.
   pub items-of : (sh : List ℕ) (k : ℕ) → k < 64 → getD sh (k / 8) 0 ≡ snapshotOf r .events (k / 8)
@@ -129,21 +126,21 @@ module _ (r : Run) (w : WholeRun r) (e : isReplayed r ≡ true) where
       → channelWords (snapshotOf r) k ≡ itemsAt k sh (wordsAt r) (ownNumbers (wordsAt r) (firstRun r))
   items-of sh k h fi fj =
       let q = reached r w e in
-      sym (items-are (r .count) (stocksAt r) (wordsAt r) 0 (q .opened) (q .accepted) sh k h fi fj)
+      sym (items-are (openedWith r) (wordsAt r) 0 (q .opened) (q .accepted) sh k h fi fj)
 
   -- All words of a recording, by the zones' checkpoints and the records, where sh lists the events shown of the zones of the site.
-  pub zone-words-are : joinBelow (r .count) (zoneWords (snapshotOf r)) ≡ joinBelow (r .count) (λ i. wordsOf (zoneAt (r .zones) i) (getD (r .opening) i 0))
-  zone-words-are = join-same (r .count) _ _ (λ i h. rw (recorded-is i h, events-are i h, stock-is i h))
+  pub zone-words-are : joinBelow (countOf (r .head)) (zoneWords (snapshotOf r)) ≡ joinBelow (countOf (r .head)) (λ i. wordsOf (zoneAt (r .head) i) (getD (r .head .opening .stocks) i 0))
+  zone-words-are = join-same (countOf (r .head)) _ _ (λ i h. rw (recorded-is i h, events-are i h, stock-is i h))
 
-  pub item-words-are : (sh : List ℕ) → ((i : ℕ) → i < r .count → getD sh i 0 ≡ eventsOf (zoneAt (r .zones) i .checkpoint))
-      → itemWords (r .count) (snapshotOf r)
-      ≡ joinBelow 64 (λ k. cond (isChannel (r .count) k) (itemsAt k sh (wordsAt r) (ownNumbers (wordsAt r) (firstRun r))) [])
+  pub item-words-are : (sh : List ℕ) → ((i : ℕ) → i < countOf (r .head) → getD sh i 0 ≡ eventsOf (zoneAt (r .head) i .checkpoint))
+      → itemWords (countOf (r .head)) (snapshotOf r)
+      ≡ joinBelow 64 (λ k. cond (isChannel (countOf (r .head)) k) (itemsAt k sh (wordsAt r) (ownNumbers (wordsAt r) (firstRun r))) [])
   unfolding itemWords
-  item-words-are sh fits = join-same 64 _ _ (λ k h. go k h (isChannel (r .count) k) refl)
+  item-words-are sh fits = join-same 64 _ _ (λ k h. go k h (isChannel (countOf (r .head)) k) refl)
     where
-      go : (k : ℕ) → k < 64 → (p : Bool) → isChannel (r .count) k ≡ p
+      go : (k : ℕ) → k < 64 → (p : Bool) → isChannel (countOf (r .head)) k ≡ p
           → cond p (channelWords (snapshotOf r) k) [] ≡ cond p (itemsAt k sh (wordsAt r) (ownNumbers (wordsAt r) (firstRun r))) []
       go k h true c =
-          let (x, y) = pair-at (r .count) k c in
+          let (x, y) = pair-at (countOf (r .head)) k c in
           items-of sh k h (fits (k / 8) x ∙ sym (events-are (k / 8) x)) (fits (k % 8) y ∙ sym (events-are (k % 8) y))
       go k h false c = refl

@@ -8,16 +8,17 @@ use Rattle.rules.specs.Cut.{Snapshot, snapshot}
 use Rattle.rules.specs.Limits.{mostZones}
 use Rattle.rules.specs.Questions.{question, ask}
 use Rattle.rules.specs.Site.{Call, waits}
-use Rattle.channel.specs.Channels.{itemsOn}
+use Rattle.channel.specs.Channels.{itemsOn, isChannel}
 use Rattle.channel.specs.declared.Channels.{Channels}
 use Rattle.rules.specs.Below.{allBelow}
 use Rattle.run.specs.Lists.{callOf}
-use Rattle.run.specs.Model.{stocksOf}
-use Rattle.run.specs.State.{isChannel, hasStarted}
+use Rattle.run.specs.State.{hasStarted, termsOf, countOf}
 use Rattle.run.specs.declared.Run.{Run}
 use Rattle.journal.specs.Format as format
 use Rattle.journal.specs.Writing.{isReplayed, Output, refusedOutput, writtenOutput}
 use Rattle.recording.specs.Layout.{recordingBytes}
+use Rattle.run.specs.Opening.{openingOf}
+use Rattle.journal.specs.Format.{openedWith, recordWords}
 
 -- The calls of some records, in order, as the rules have them.
 abbrev pub callsIn : List ℕ → List Call
@@ -25,7 +26,7 @@ callsIn ws = map callOf (format.callsIn ws)
 
 -- The recording of a run, by the rules applied to its opening and its journal's calls.
 abbrev pub snapshotOf : Run → Snapshot
-snapshotOf r = snapshot (stocksOf (take (r .count) (r .opening))) (callsIn (take (r .records) (r .journal)))
+snapshotOf r = snapshot (openingOf (openedWith r)) (callsIn (recordWords r))
 
 -- Question 13: "Is every line free of requests?"
 unfoldable pub noRequests : ℕ → Channels → Bool
@@ -35,10 +36,10 @@ unfoldable pub recordCall : Run → List ℕ → Output
 recordCall r lent =
     ask (
     question 1 (isReplayed r)
-    ∷ question 12 (hasStarted (r .count) (r .zones))
-    ∷ question 13 (noRequests (r .count) (r .channels))
-    ∷ question 14 (leb (length (recordingBytes (r .count) (snapshotOf r))) (length lent))
+    ∷ question 12 (hasStarted (r .head))
+    ∷ question 13 (noRequests (countOf (r .head)) (r .channels))
+    ∷ question 14 (leb (length (recordingBytes (termsOf (r .head)) (snapshotOf r))) (length lent))
     ∷ []
     )
     (refusedOutput lent)
-    (writtenOutput lent (recordingBytes (r .count) (snapshotOf r)))
+    (writtenOutput lent (recordingBytes (termsOf (r .head)) (snapshotOf r)))

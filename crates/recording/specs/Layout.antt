@@ -7,9 +7,10 @@ use lib.ListN.{length}
 use Rattle.rules.specs.Cut.{Snapshot}
 use Rattle.rules.specs.Limits.{mostZones}
 use Rattle.run.specs.Layout.{sendRecord}
-use Rattle.run.specs.State.{isChannel}
-use Rattle.journal.specs.Bytes.{wordsBytes}
-use Rattle.journal.specs.Format.{headerWord}
+use Rattle.words.specs.Bytes.{wordsBytes}
+use Rattle.journal.specs.Format.{headerOf}
+use Rattle.channel.specs.Channels.{isChannel}
+use Rattle.run.specs.declared.Terms.{Terms}
 
 -- Lists one after another, for the numbers below n.
 abbrev pub joinBelow : {A : Type 0} → ℕ → (ℕ → List A) → List A
@@ -27,9 +28,10 @@ channelWords s k = map (sendRecord (k / mostZones) (k % mostZones)) (s .park .ch
 unfoldable pub itemWords : ℕ → Snapshot → List ℕ
 itemWords count s = joinBelow (mostZones * mostZones) (λ k. cond (isChannel count k) (channelWords s k) [])
 
--- The words and the bytes of a recording of a site of so many zones.
-abbrev pub recordingWords : ℕ → Snapshot → List ℕ
-recordingWords count s = headerWord count (length (itemWords count s)) ∷ joinBelow count (zoneWords s) ++ itemWords count s
+-- The words and the bytes of a recording of a site with these terms.
+abbrev pub recordingWords : Terms → Snapshot → List ℕ
+recordingWords t s =
+    headerOf t (length (itemWords (t .count) s)) ∷ joinBelow (t .count) (zoneWords s) ++ itemWords (t .count) s
 
-unfoldable pub recordingBytes : ℕ → Snapshot → List ℕ
-recordingBytes count s = wordsBytes (recordingWords count s)
+unfoldable pub recordingBytes : Terms → Snapshot → List ℕ
+recordingBytes t s = wordsBytes (recordingWords t s)

@@ -1,4 +1,5 @@
 pub mod Layout
 pub mod Call
-pub mod Records
+pub mod InnerRecords
 pub mod Shown
+pub mod Journal

@@ -7,8 +7,8 @@ use Rattle.rules.specs.Change.{cons-if}
 use Rattle.rules.specs.Cut.{Snapshot}
 use Rattle.rules.specs.Limits.{mostZones}
 use Rattle.channel.specs.Channels.{place}
-use Rattle.journal.specs.Bytes.{wordAt, wordsFrom}
-use Rattle.journal.specs.Format.{zonesIn, numberIn}
+use Rattle.words.specs.Bytes.{wordAt, wordsFrom}
+use Rattle.words.specs.Header.{zonesIn, numberIn}
 
 -- The two words of the zone at index k.
 abbrev pub zoneWord : List ℕ → ℕ → ℕ

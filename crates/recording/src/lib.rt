@@ -1,1 +1,10 @@
 // The recording of a run, written as bytes.
+ghost use Rattle.recording.specs.declared.Recorded.{Recorded};
+
+// What the recording of a journal answers: the refusal's number or 0, the position of the record that was refused with 18 or 19, and the
+// number of bytes written.
+pub struct Recorded {
+    pub refusal: u8,
+    pub position: usize,
+    pub written: usize,
+}

@@ -1,18 +1,14 @@
--- The text for any journal has at most 6,102 characters: the bytes that the program lends are enough. Assumes nothing.
-use mathlib.Core.Path.{_≡_}
+-- The text for any journal has at most 6,102 characters: the bytes that the program lends are enough.
 use mathlib.Core.Bool.{Bool, true, false, cond}
 use mathlib.Core.List.{List, [], _∷_}
 use Prim.Native.Nat.{ℕ, zero, suc, _*_, _≤_}
 use native.Mathlib.Omega.{arith}
 use lib.Dec.{eqb, ltb}
 use lib.ListN.{length, take, replicate, length-replicate}
-use Rattle.journal.specs.Reading.{readCall}
-use Rattle.journal.specs.declared.Reading.{Reading}
-use Rattle.recording.specs.Call.{recordCall}
-use Rattle.run.specs.declared.Run.{Run}
+use Rattle.recording.specs.Journal.{recordJournal}
 use Rattle.text.specs.Text.{bytesText, decimalText, refusedText}
 use Rattle.text.proofs.Laws.{text-length, refused-length}
-use Rattle.report.specs.Report.{reportText, readingText, outputText}
+use Rattle.report.specs.Report.{reportText}
 use Rattle.report.proofs.Laws.{written-fits}
 
 take-most : (n : ℕ) (l : List ℕ) → length (take n l) ≤ n
@@ -36,19 +32,19 @@ decimal-fits n = either-fits (ltb n 10) _ _ 3 (omega arith) (either-fits (ltb n 
 pub refused-fits : (n : ℕ) → length (refusedText n) ≤ 12
 refused-fits n = omega (arith, refused-length n, decimal-fits n)
 
-output-fits : (r : Run) (lent : List ℕ) → length lent ≡ 2034 → length (outputText (recordCall r lent)) ≤ 6102
-output-fits r lent e =
-    let o = recordCall r lent in
-    either-fits (eqb (o .answer .refusal) 0) _ _ 6102
-    (shown-fits (take (o .answer .written) (o .bytes)) 2034
-    (omega (arith, take-most (o .answer .written) (o .bytes), written-fits r lent)) (omega arith))
-    (omega (arith, refused-fits (o .answer .refusal)))
-
-reading-fits : (t : Reading) → length (readingText t) ≤ 6102
-reading-fits t =
-    either-fits (eqb (t .refusal) 0) _ _ 6102 (output-fits (t .run) (replicate 2034 0) (length-replicate {A = ℕ} 2034 0))
-    (omega (arith, refused-fits (t .refusal)))
-
 pub report-fits : (journal : List ℕ) → length (reportText journal) ≤ 6102
 unfolding reportText
-report-fits journal = reading-fits (readCall journal)
+report-fits journal =
+    let o = recordJournal journal (replicate 2034 0) in
+    either-fits (eqb (o .answer .refusal) 0) _ _ 6102
+    (shown-fits (take (o .answer .written) (o .bytes)) 2034
+    (
+    omega (
+      arith,
+      take-most (o .answer .written) (o .bytes),
+      written-fits journal (replicate 2034 0),
+      length-replicate {A = ℕ} 2034 0,
+    )
+    )
+    (omega arith))
+    (omega (arith, refused-fits (o .answer .refusal)))

@@ -1,4 +1,4 @@
--- The text for a journal is told by its first 2,019 bytes: the bytes of input that the program reads are enough. Assumes nothing.
+-- The text for a journal is told by its first 2,019 bytes: the bytes of input that the program reads are enough.
 use mathlib.Core.Path.{_≡_, refl, sym, _∙_, ap, ap₂}
 use mathlib.Core.Bool.{Bool, true, false, cond, _&&_}
 use mathlib.Core.List.{List}
@@ -6,14 +6,15 @@ use Prim.Native.Nat.{ℕ, _+_, _*_, _<_, _≤_}
 use native.Mathlib.Omega.{arith}
 use borrow.Author.Tests.{leb-true, leb-false, le-leb, ne-eqb}
 use lib.Dec.{leb, eqb}
-use lib.ListN.{length, take}
+use lib.ListN.{length, take, replicate}
 use lib.Seq.{length-take-le, take-all, getD-take}
 use Rattle.rules.proofs.Tests.{and-right}
-use Rattle.journal.specs.Bytes.{wordAt}
-use Rattle.journal.specs.Format.{editionIn, zonesIn, numberIn}
+use Rattle.words.specs.Bytes.{wordAt}
+use Rattle.words.specs.Header.{editionIn, zonesIn, numberIn}
 use Rattle.journal.specs.Reading.{unread, zonesOf, recordsOf, isHeader, readCall}
 use Rattle.journal.specs.declared.Reading.{Reading}
-use Rattle.report.specs.Report.{reportText, readingText}
+use Rattle.recording.specs.Journal.{recordJournal}
+use Rattle.report.specs.Report.{outputText, reportText}
 
 -- What the reader answers of a journal with this header that is longer than any header tells.
 abbrev overlong : ℕ → Reading
@@ -50,6 +51,10 @@ read-overlong journal = go (leb (length journal) 2019) refl
     go true e = ap readCall (take-all 2019 journal (leb-true (length journal) 2019 e))
     go false e = cut-read journal (leb-false (length journal) 2019 e)
 
+record-overlong : (journal lent : List ℕ) → recordJournal (take 2019 journal) lent ≡ recordJournal journal lent
+unfolding recordJournal
+record-overlong journal lent = rw (read-overlong journal)
+
 pub report-overlong : (journal : List ℕ) → reportText (take 2019 journal) ≡ reportText journal
 unfolding reportText
-report-overlong journal = ap readingText (read-overlong journal)
+report-overlong journal = ap outputText (record-overlong journal (replicate 2034 0))

@@ -1,4 +1,4 @@
--- What a text's writer answers lies within the lent bytes. Assumes nothing.
+-- What a text's writer answers lies within the lent bytes.
 use mathlib.Core.Path.{_≡_, sym, ap, _∙_}
 use mathlib.Core.List.{List}
 use Prim.Native.Nat.{ℕ, _≤_}

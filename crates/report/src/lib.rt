@@ -6,13 +6,8 @@ ghost use Rattle.text.specs.Text.{Prints};
 pub fn report(journal: &[u8], out: &mut [u8]) -> usize
     ensures { λ r. ⌜ Prints (reportText (now (journal .entry))) (now (out .entry)) (now (out .exit)) r ⌝ }
 {
-    let reading = reader::read(journal);
-    if reading.refusal != 0 {
-        return text::refused(reading.refusal, out);
-    }
-    let run = reading.run;
     let mut bytes = [0u8; 2034];
-    let done = recorder::record(run, &mut bytes);
+    let done = recorder::record_journal(journal, &mut bytes);
     if done.refusal != 0 {
         return text::refused(done.refusal, out);
     }

@@ -1,4 +1,4 @@
--- `items::counted` meets its contract, by the counts over the records before the next one. Assumes nothing.
+-- `items::counted` meets its contract, by the counts over the records before the next one.
 use mathlib.Core.Path.{_≡_, refl}
 use Prim.Native.Nat.{_-_, _≤_}
 use native.Mathlib.Omega.{arith}
@@ -13,6 +13,16 @@ Inv-loop words owns shown seen₀ i₀ i-end seen i = (i-end ≡ length words) �
 
 abbrev μ-loop : tie.MeasureT-loop
 μ-loop words owns shown seen₀ i₀ i-end seen i = i-end - i
+
+-- Landmarks, backwards: the call's arguments before the loop, the round's beginning, the record's high byte.
+abbrev start : tie.At-loop Inv-loop μ-loop → tie.Start Inv-loop μ-loop
+start c = c .before .before .before
+
+abbrev top : tie.After-high-byte Inv-loop μ-loop → tie.At-loop Inv-loop μ-loop
+top c = c .before .before .before .before
+
+abbrev split : tie.After-inside Inv-loop μ-loop → tie.After-high-byte Inv-loop μ-loop
+split c = c .before .before
 
 loop-holds : tie.Need-loop-holds Inv-loop μ-loop
 loop-holds c = (refl, omega arith, seen-none _ _ _)
@@ -45,9 +55,7 @@ array-read-seen : tie.Need-array-read-seen Inv-loop μ-loop
 array-read-seen c = search needs
 
 add-seen : tie.Need-add-seen Inv-loop μ-loop
-add-seen c =
-    let b = c .before .before .before .before .before .before in
-    record { fits = omega (arith, c .inside .ensures .1, b .loop .inv .2 .few (c .before .before .high-byte .result)) }
+add-seen c = record { fits = omega (arith, c .inside .ensures .1, top (split c) .loop .inv .2 .few (split c .high-byte .result)) }
 
 mul-seen-2 : tie.Need-mul-seen-2 Inv-loop μ-loop
 mul-seen-2 c = search needs
@@ -63,21 +71,20 @@ loop-less c = search needs
 
 loop-again : tie.Need-loop-again Inv-loop μ-loop
 loop-again c =
-    let b = c .before .before .before .before .before .before in
-    let a = b .before .before .before .args in
-    let h = c .before .before .high-byte in (
+    let h = split c .high-byte in
+    let at = top (split c) .loop in
+    let a = start (top (split c)) .args in (
       refl,
       omega arith,
-      seen-more (b .loop .seen) (a .shown) (a .words .now) (a .owns .now) (b .loop .i) (h .result) (c .before .shown-for .result) (c .inside .result)
-          (b .loop .inv .2) (omega arith) (omega arith) (h .ensures .0) (h .ensures .1) (c .before .shown-for .ensures) (c .inside .ensures .0),
+      seen-more (at .seen) (a .shown) (a .words .now) (a .owns .now) (at .i) (h .result) (c .before .shown-for .result) (c .inside .result)
+          (at .inv .2) (omega arith) (omega arith) (h .ensures .0) (h .ensures .1) (c .before .shown-for .ensures) (c .inside .ensures .0),
     )
 
 returns : tie.Need-returns Inv-loop μ-loop
 returns c =
-    let b = c .before in
-    let a = b .before .before .before .args in
-    let e : b .loop .i ≡ length (a .words .now) = omega arith in
-    seen-all (b .loop .seen) (a .shown) (a .words .now) (a .owns .now) (rw (← e) (b .loop .inv .2))
+    let at = c .before .loop in
+    let a = start (c .before) .args in
+    seen-all (at .seen) (a .shown) (a .words .now) (a .owns .now) (at .i) (omega arith) (at .inv .2)
 
 pub counted-spec : {M : Type 1} → statement M
 counted-spec =

@@ -1,4 +1,4 @@
--- `items::inside` meets its contract. Assumes nothing.
+-- `items::inside` meets its contract.
 use mathlib.Core.Path.{refl}
 use native.Mathlib.Omega.{arith}
 use Rattle.items.proofs.inside.Statement.{statement}

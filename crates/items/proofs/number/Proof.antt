@@ -1,11 +1,11 @@
--- `items::number` meets its contract, by the sum over the places before the next one. Assumes nothing.
+-- `items::number` meets its contract, by the sum over the places before the next one.
 use mathlib.Core.Path.{_≡_, refl, _∙_, ap}
 use Prim.Native.Nat.{ℕ, _-_, _*_, _≤_}
 use native.Mathlib.Numerals.{add-one}
 use native.Mathlib.Omega.{arith}
 use borrow.Author.Needs.{needs}
 use Rattle.rules.specs.Below.{sumBelow}
-use Rattle.items.specs.Items.{numberAt, itemNumber}
+use Rattle.items.specs.InnerItems.{numberAt, itemNumber}
 use Rattle.items.proofs.number.Statement.{statement}
 use Rattle.items.proofs.number.Tie as tie
 

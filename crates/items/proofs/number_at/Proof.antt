@@ -1,12 +1,12 @@
--- `items::number_at` meets its contract. Assumes nothing.
+-- `items::number_at` meets its contract.
 use mathlib.Core.Path.{_≡_, refl, sym, _∙_}
 use mathlib.Core.Bool.{true, false}
 use native.Mathlib.Omega.{arith}
 use borrow.Author.Tests.{not-true, not-false}
-use Rattle.run.specs.State.{isChannel}
-use Rattle.items.specs.Items.{numberAt}
+use Rattle.items.specs.InnerItems.{numberAt}
 use borrow.Author.Needs.{needs}
 use Rattle.items.proofs.number_at.Statement.{statement}
+use Rattle.channel.specs.Channels.{isChannel}
 use Rattle.items.proofs.number_at.Tie as tie
 
 is-channel-requires : tie.Need-is-channel-requires

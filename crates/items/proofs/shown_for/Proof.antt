@@ -1,4 +1,4 @@
--- `items::shown_for` meets its contract. Assumes nothing.
+-- `items::shown_for` meets its contract.
 use borrow.Author.Needs.{needs}
 use borrow.Author.Tests.{lt-ltb, le-ltb}
 use Rattle.items.proofs.shown_for.Statement.{statement}

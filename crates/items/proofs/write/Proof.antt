@@ -1,4 +1,4 @@
--- `items::write` meets its contract, by the words of the places before the next one. Assumes nothing.
+-- `items::write` meets its contract, by the words of the places before the next one.
 use mathlib.Core.Path.{_≡_}
 use Prim.Native.Nat.{_+_, _-_, _*_, _≤_}
 use native.Mathlib.Numerals.{add-one}
@@ -6,8 +6,8 @@ use native.Mathlib.Omega.{arith}
 use borrow.Author.Needs.{needs}
 use lib.ListN.{length, length-take, length-drop}
 use Rattle.recording.specs.Layout.{joinBelow}
-use Rattle.items.specs.Items.{wordsAt}
-use Rattle.items.specs.Wrote.{Wrote}
+use Rattle.items.specs.InnerItems.{wordsAt}
+use Rattle.words.specs.InnerWrote.{Wrote}
 use Rattle.items.proofs.Writing.{none-wrote, more-wrote, wrote-length, below-all, all-places}
 use Rattle.items.proofs.write.Statement.{statement}
 use Rattle.items.proofs.write.Tie as tie

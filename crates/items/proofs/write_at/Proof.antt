@@ -1,9 +1,9 @@
--- `items::write_at` meets its contract. Assumes nothing.
+-- `items::write_at` meets its contract.
 use mathlib.Core.Path.{_≡_, sym, _∙_}
 use Prim.Native.Nat.{_+_}
 use lib.ListN.{drop, getD}
-use Rattle.recording.specs.Records.{sentWords}
-use Rattle.items.specs.Items.{wordsAt}
+use Rattle.recording.specs.InnerRecords.{sentWords}
+use Rattle.items.specs.InnerItems.{wordsAt}
 use Rattle.items.proofs.Writing.{none-wrote, no-items, the-items}
 use borrow.Author.Needs.{needs}
 use Rattle.items.proofs.write_at.Statement.{statement}

@@ -1,4 +1,4 @@
--- `items::write_channel` meets its contract, by the words written and those still to come. Assumes nothing.
+-- `items::write_channel` meets its contract, by the words written and those still to come.
 use mathlib.Core.Path.{_≡_, refl}
 use Prim.Native.Nat.{_+_, _-_, _≤_}
 use native.Mathlib.Omega.{arith}
@@ -6,7 +6,7 @@ use borrow.Author.Needs.{needs}
 use mathlib.Core.List.{[], _∷_}
 use lib.ListN.{length, drop, getD, length-take, length-drop}
 use lib.Seq.{drop-length}
-use Rattle.recording.specs.Records.{sentWords}
+use Rattle.recording.specs.InnerRecords.{sentWords}
 use Rattle.items.proofs.Writing.{Going, going-first, going-skip, going-length, going-room, going-word, going-done, elsewhere, outside, here}
 use Rattle.items.proofs.write_channel.Statement.{statement}
 use Rattle.items.proofs.write_channel.Tie as tie

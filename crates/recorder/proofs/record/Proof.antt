@@ -1,20 +1,35 @@
--- `recorder::record` meets its contract: questions 1, 12, 13 and 14, and the bytes. Assumes nothing.
+-- `recorder::record` meets its contract: question 1, then what is left.
 use mathlib.Core.Path.{_≡_, refl, sym, _∙_, ap}
 use mathlib.Core.Bool.{true}
-use Prim.Native.Nat.{_-_}
-use native.Mathlib.Omega.{arith}
+use lib.ListN.{length, length-map}
 use borrow.Author.Tests.{not-true, not-false}
-use lib.ListN.{length, take, length-map, length-take}
 use Rattle.run.specs.Claims.{WholeRun}
-use Rattle.run.specs.State.{hasStarted}
 use Rattle.journal.specs.Writing.{isReplayed}
-use Rattle.recording.specs.Call.{noRequests, recordCall}
-use Rattle.recording.proofs.Bounds.{run-sound}
-use Rattle.recording.proofs.Zones.{wordsAt}
-use Rattle.recorder.proofs.Recorded.{numbersAt, fitting, numbers-records, numbers-front, sized-is}
+use Rattle.recorder.specs.InnerWords.{Replayed}
+use Rattle.recorder.proofs.Recorded.{refused-1, replayed-from}
 use borrow.Author.Needs.{needs}
 use Rattle.recorder.proofs.record.Statement.{statement}
+use Rattle.run.specs.declared.SiteCall.the-variants.{Start}
 use Rattle.recorder.proofs.record.Tie as tie
+
+-- Landmarks: question 1 answered yes.
+abbrev start : tie.After-is-replayed → tie.Start
+start c = c .before .before .before
+
+asked : (c : tie.Else1) → isReplayed (start (c .before) .args .run) ≡ true
+asked c = sym (c .before .is-replayed .ensures .0) ∙ not-false _ (c .if1 .left)
+
+-- The lists of a run have the lengths of its arrays.
+whole : (c : tie.Start) → WholeRun (c .args .run)
+whole c = record {
+  zones = let k = c .good .0 .1 .1 .0 .1 .1 .1 .1 .0 .1 .0 .1 in sym (length-map (c .args .run .head .zones) _) ∙ k;
+  opening = search needs;
+  channels = (search needs, search needs);
+  journal = search needs;
+}
+
+numbered : (c : tie.Else1) → let o = c .before .is-replayed .last .1 .0 in Replayed (start (c .before) .args .run) o × (length o ≡ 1000)
+numbered c = replayed-from _ (whole (start (c .before))) (asked c) _ _ refl (c .before .is-replayed .ensures .1 (not-false _ (c .if1 .left)))
 
 is-replayed-requires : tie.Need-is-replayed-requires
 is-replayed-requires c κs = search needs
@@ -23,96 +38,19 @@ refused-requires : tie.Need-refused-requires
 refused-requires c κs = search needs
 
 returns : tie.Need-returns
-unfolding recordCall
-returns c = rw (sym (c .before .before .is-replayed .ensures .0) ∙ not-true _ (c .before .if1 .taken)) (c .refused .ensures, refl)
+returns c = refused-1 _ _ _ (sym (c .before .before .is-replayed .ensures .0) ∙ not-true _ (c .before .if1 .taken)) (c .refused .ensures)
 
--- Question 1 was answered yes; then the own-event numbers are those of the records.
-module _ (c : tie.Else1) where
-  asked : isReplayed (c .before .before .before .before .args .run) ≡ true
-  asked = sym (c .before .is-replayed .ensures .0) ∙ not-false _ (c .if1 .left)
+slice-aggregate-record-replayed : tie.Need-slice-aggregate-record-replayed
+slice-aggregate-record-replayed c = sym (numbered (c .before) .1)
 
-  whole : WholeRun (c .before .before .before .before .args .run)
-  whole = record { zones = let k = c .before .before .before .before .good .0 .1 .1 .1 .1 .0 .1 .0 .1 in sym (length-map (c .before .before .before .before .args .run .zones) _) ∙ k; opening = search needs; channels = (search needs, search needs); journal = search needs }
-
-  numbers : take (c .before .before .before .before .args .run .records - 0) (c .before .is-replayed .last .1 .0) ≡ numbersAt (c .before .before .before .before .args .run) whole asked
-  numbers =
-      let z : c .before .before .before .before .args .run .records - 0 ≡ c .before .before .before .before .args .run .records = omega arith in
-      rw (z, c .before .is-replayed .ensures .1 (not-false _ (c .if1 .left))) (numbers-front (c .before .before .before .before .args .run) whole asked _)
-
-  words : take (c .before .before .before .before .args .run .records - 0) (c .before .before .before .before .args .run .journal) ≡ wordsAt (c .before .before .before .before .args .run)
-  words =
-      let z : c .before .before .before .before .args .run .records - 0 ≡ c .before .before .before .before .args .run .records = omega arith in
-      rw z
-
-has-started-requires : tie.Need-has-started-requires
-has-started-requires c κs = run-sound _ (whole (c .before)) (asked (c .before)) .most
-
-refused-requires-2 : tie.Need-refused-requires-2
-refused-requires-2 c κs = search needs
-
-returns-2 : tie.Need-returns-2
-unfolding recordCall
-returns-2 c =
-    rw (asked (c .before .before .before .before), sym (c .before .before .has-started .ensures) ∙ not-true _ (c .before .if2 .taken)) (c .refused2 .ensures, refl)
-
--- Question 12 was answered yes, then question 13.
-started : (c : tie.Else2) → hasStarted (c .before .before .before .before .before .before .before .args .run .count) (c .before .before .before .before .before .before .before .args .run .zones) ≡ true
-started c = sym (c .before .has-started .ensures) ∙ not-false _ (c .if2 .left)
-
-free : (c : tie.Else3) → noRequests (c .before .before .before .before .before .before .before .before .before .before .before .before .before .before .args .run .count) (c .before .before .before .before .before .before .before .before .before .before .before .before .before .before .args .run .channels) ≡ true
-free c = sym (c .before .no-requests .ensures) ∙ not-false _ (c .if3 .left)
-
-no-requests-requires : tie.Need-no-requests-requires
-no-requests-requires c κs = search needs
-
-refused-requires-3 : tie.Need-refused-requires-3
-refused-requires-3 c κs = search needs
-
-returns-3 : tie.Need-returns-3
-unfolding recordCall
-returns-3 c =
-    rw (asked (c .before .before .before .before .before .before .before .before .before .before .before), started (c .before .before .before .before .before .before .before .before), sym (c .before .before .no-requests .ensures) ∙ not-true _ (c .before .if3 .taken)) (c .refused3 .ensures, refl)
-
-cast-n : tie.Need-cast-n
-cast-n c = search needs
-
-sub-write-sized : tie.Need-sub-write-sized
-sub-write-sized c = search needs
-
-part-write-sized-start : tie.Need-part-write-sized-start
-part-write-sized-start c = search needs
-
-part-write-sized-end : tie.Need-part-write-sized-end
-part-write-sized-end c =
-    let b = c .before .before .before .before .before .before .before .before .before .before .before .before .before .before .before in
-    omega (arith, run-sound _ (whole b) (asked b) .records, whole b .journal)
-
-sub-write-sized-2 : tie.Need-sub-write-sized-2
-sub-write-sized-2 c = search needs
-
-part-write-sized-start-2 : tie.Need-part-write-sized-start-2
-part-write-sized-start-2 c = search needs
-
-part-write-sized-end-2 : tie.Need-part-write-sized-end-2
-part-write-sized-end-2 c =
-    let b = c .before .before .before .before .before .before .before .before .before .before .before .before .before .before .before .before .before in
-    let r = c .before .before .before .before .before .before .before .before .before .before .before .before .before .before .before .before .before .before .before .before .before .args .run in
-    let n = length-take (r .records - 0) (b .before .is-replayed .last .1 .0) in
-    omega (arith, n, ap length (numbers b), numbers-records r (whole b) (asked b))
-
-write-sized-requires : tie.Need-write-sized-requires
-write-sized-requires c κs =
-    let b = c .before .before .before .before .before .before .before .before .before .before .before .before .before .before .before .before .before .before in
-    rw (words b, numbers b) (fitting _ (whole b) (asked b))
+record-replayed-requires : tie.Need-record-replayed-requires
+record-replayed-requires c κs = numbered (c .before .before) .0
 
 same-length : tie.Need-same-length
 same-length c = search needs
 
-returns-4 : tie.Need-returns-4
-returns-4 c =
-    let b = c .before .before .before .before .before .before .before .before .before .before .before .before .before .before .before .before .before .before .before .before .before in
-    let e = sized-is _ (whole b) (asked b) (c .before .before .before .before .before .before .before .before .before .before .before .before .before .before .before .before .before .before .before .before .before .before .before .before .before .args .out .now) _ _ (words b) (numbers b) (started (c .before .before .before .before .before .before .before .before .before .before .before .before .before .before .before .before .before .before)) (free (c .before .before .before .before .before .before .before .before .before .before .before)) in
-    rw (← e) (c .before .before .write-sized .ensures)
+returns-2 : tie.Need-returns-2
+returns-2 c = search needs
 
 pub record-spec : {M : Type 1} → statement M
 record-spec =
@@ -121,19 +59,7 @@ record-spec =
     is-replayed-requires
     refused-requires
     returns
-    has-started-requires
-    refused-requires-2
-    returns-2
-    no-requests-requires
-    refused-requires-3
-    returns-3
-    cast-n
-    sub-write-sized
-    part-write-sized-start
-    part-write-sized-end
-    sub-write-sized-2
-    part-write-sized-start-2
-    part-write-sized-end-2
-    write-sized-requires
+    slice-aggregate-record-replayed
+    record-replayed-requires
     same-length
-    returns-4)
+    returns-2)

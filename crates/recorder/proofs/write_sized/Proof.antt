@@ -1,14 +1,41 @@
--- `recorder::write_sized` meets its contract: the number of items decides question 14. Assumes nothing.
-use mathlib.Core.Path.{_≡_, refl, _∙_}
-use Prim.Native.Nat.{_≤_}
+-- `recorder::write_sized` meets its contract: the number of items decides question 14.
+use mathlib.Core.Path.{_≡_, refl, _∙_, ap, subst}
+use mathlib.Core.List.{List}
+use Prim.Native.Nat.{ℕ, _≤_}
 use native.Mathlib.Omega.{arith}
 use lib.ListN.{length}
-use Rattle.items.specs.Items.{allWords}
+use Rattle.run.specs.State.{countOf}
+use Rattle.items.specs.InnerItems.{allWords}
+use Rattle.items.proofs.Counting.{counted-of}
 use Rattle.items.proofs.Writing.{all-number}
 use Rattle.recorder.proofs.Sized.{too-few, enough}
 use borrow.Author.Needs.{needs}
 use Rattle.recorder.proofs.write_sized.Statement.{statement}
+use Rattle.run.specs.declared.SiteCall.the-variants.{Start}
+use Rattle.rules.proofs.AskLaws.{numbers}
 use Rattle.recorder.proofs.write_sized.Tie as tie
+
+-- Landmarks: the events shown are found; the records are counted; the items are numbered.
+abbrev start : tie.After-shown-events → tie.Start
+start c = c .before .before .before .before .before .before
+
+abbrev events : tie.After-number → tie.After-shown-events
+events c = c .before .before .before
+
+abbrev count : tie.After-number → tie.After-counted
+count c = c .before .before
+
+-- The number of items, and its bound.
+module _ (c : tie.After-number) where
+  number-is : let a = start (events c) .args in
+      c .number .result ≡ length (allWords (countOf (a .head)) (events c .shown-events .result) (a .words .now) (a .owns .now))
+  number-is = c .number .ensures ∙ all-number _ _ _ _ _ (counted-of (count c .counted .ensures))
+
+  few : c .number .result ≤ 1000
+  few =
+      let a = start (events c) .args in
+      let e = number-is ∙ ap (λ (l : List ℕ). length (allWords (countOf (a .head)) l (a .words .now) (a .owns .now))) (events c .shown-events .ensures) in
+      omega (arith, e, start (events c) .pre .items)
 
 shown-events-requires : tie.Need-shown-events-requires
 shown-events-requires c κs = search needs
@@ -19,28 +46,20 @@ counted-requires c κs = search needs
 number-requires : tie.Need-number-requires
 number-requires c κs = search needs
 
+cast-if1 : tie.Need-cast-if1
+cast-if1 c = search needs
+
 mul-if1 : tie.Need-mul-if1
 mul-if1 c = search needs
 
 add-if1 : tie.Need-add-if1
 add-if1 c = search needs
 
--- The number of items, and its bound.
-module _ (c : tie.After-number) where
-  number-is : c .number .result ≡ length (allWords (c .before .before .before .before .before .before .before .args .count) (c .before .before .before .shown-events .result) (c .before .before .before .before .before .before .before .args .words .now) (c .before .before .before .before .before .before .before .args .owns .now))
-  number-is = c .number .ensures ∙ all-number _ _ _ _ _ (c .before .before .counted .ensures)
-
-  few : c .number .result ≤ 1000
-  few =
-      let h = c .before .before .before .before .before .before .before .pre .items in
-      let e = rw (c .before .before .before .shown-events .ensures) at number-is in
-      omega arith
-
 mul-if1-2 : tie.Need-mul-if1-2
 mul-if1-2 c = let h = few c in record { fits = omega arith }
 
 add-if1-2 : tie.Need-add-if1-2
-add-if1-2 c = let h = few c in record { fits = omega arith }
+add-if1-2 c = let h = few c in record { fits = omega (arith, h, start (events c) .pre .most) }
 
 refused-requires : tie.Need-refused-requires
 refused-requires c κs = search needs
@@ -48,8 +67,8 @@ refused-requires c κs = search needs
 returns : tie.Need-returns
 returns c =
     let b = c .before .before in
-    let a = b .before .before .before .before .before .before .before .args in
-    let e = too-few (a .count) (a .zones) (a .opening) (a .words .now) (a .owns .now) _ _ (a .out .now) (b .before .before .before .shown-events .ensures) (number-is b) (c .before .if1 .taken) in
+    let a = start (events b) .args in
+    let e = too-few (a .head) (a .words .now) (a .owns .now) _ _ (a .out .now) (events b .shown-events .ensures) (number-is b) (c .before .if1 .taken) in
     rw e (c .refused .ensures, refl)
 
 cast-write-all : tie.Need-cast-write-all
@@ -58,19 +77,20 @@ cast-write-all c = let h = few (c .before .before .before) in record { fits = om
 write-all-requires : tie.Need-write-all-requires
 write-all-requires c κs =
     let b = c .before .before .before in
-    let p = b .before .before .before .before .before .before .before .pre in
-    (p .fewest, p .most, p .events, p .numbers, b .before .before .counted .ensures, few b, number-is b, c .before .before .if1 .left)
+    let p = start (events b) .pre in
+    (p .fewest, p .most, p .events, p .numbers, counted-of (count b .counted .ensures), few b, number-is b, c .before .before .if1 .left)
 
 same-length : tie.Need-same-length
 same-length c = search needs
 
 returns-2 : tie.Need-returns-2
 returns-2 c =
-    let b = c .before .before .before .before .before .before in
-    let a = b .before .before .before .before .before .before .before .args in
     let w = c .before .before .write-all in
-    let e = enough (a .count) (a .zones) (a .opening) (a .words .now) (a .owns .now) _ _ (a .out .now) (b .before .before .before .shown-events .ensures) (number-is b)
-    (w .last .0) (w .result) (c .before .before .before .before .before .if1 .left) (w .ensures) in
+    let t = c .before .before .before .before .before in
+    let b = t .before in
+    let a = start (events b) .args in
+    let e = enough (a .head) (a .words .now) (a .owns .now) _ _ (a .out .now) (events b .shown-events .ensures) (number-is b)
+    (w .last .0) (w .result) (t .if1 .left) (w .ensures) in
     rw e (refl, refl)
 
 pub write-sized-spec : {M : Type 1} → statement M
@@ -80,6 +100,7 @@ write-sized-spec =
     shown-events-requires
     counted-requires
     number-requires
+    cast-if1
     mul-if1
     add-if1
     mul-if1-2

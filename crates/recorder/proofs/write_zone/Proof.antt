@@ -1,4 +1,4 @@
--- `recorder::write_zone` meets its contract: the second word is written behind the first. Assumes nothing.
+-- `recorder::write_zone` meets its contract: the second word is written behind the first.
 use Rattle.items.proofs.Writing.{more-wrote, word-wrote}
 use borrow.Author.Needs.{needs}
 use Rattle.recorder.proofs.write_zone.Statement.{statement}

@@ -1,4 +1,4 @@
--- `recorder::zone_word` meets its contract. Assumes nothing.
+-- `recorder::zone_word` meets its contract.
 use native.Mathlib.Omega.{arith}
 use borrow.Author.Needs.{needs}
 use Rattle.recorder.proofs.zone_word.Statement.{statement}

@@ -1,17 +1,24 @@
--- `report::report` meets its contract: the refusal of the journal, that of the recording, or the recording. Assumes nothing.
+-- `report::report` meets its contract: the refusal of the journal or of its recording, or the recording.
 use mathlib.Core.Path.{ap}
 use Prim.Native.Nat.{ℕ, _-_}
 use native.Mathlib.Numerals.{unary-clauses}
 use native.Mathlib.Omega.{arith}
 use lib.ListN.{replicate, length-replicate}
-use Rattle.journal.specs.declared.Written.{Written}
-use Rattle.report.proofs.Laws.{refused-read, refused-recording, recording-shown, written-fits}
+use Rattle.recording.specs.declared.Recorded.{Recorded}
+use Rattle.report.proofs.Laws.{refused-printed, recording-shown, written-fits}
 use borrow.Author.Needs.{needs}
 use Rattle.report.proofs.report.Statement.{statement}
 use Rattle.report.proofs.report.Tie as tie
 
-read-requires : tie.Need-read-requires
-read-requires c κs = search needs
+-- Landmark: the journal's recording is answered, and accepted.
+abbrev done : tie.Else1 → tie.After-record-journal
+done c = c .before .before .before
+
+slice-aggregate-record-journal : tie.Need-slice-aggregate-record-journal
+slice-aggregate-record-journal c = search needs
+
+record-journal-requires : tie.Need-record-journal-requires
+record-journal-requires c κs = search needs
 
 refused-requires : tie.Need-refused-requires
 refused-requires c κs = search needs
@@ -20,23 +27,10 @@ same-length : tie.Need-same-length
 same-length c = search needs
 
 returns : tie.Need-returns
-returns c = refused-read _ _ _ _ _ (c .before .before .before .before .before .before .read .ensures) (c .before .before .before .before .if1 .taken) (c .before .before .refused .ensures)
-
-slice-aggregate-record : tie.Need-slice-aggregate-record
-slice-aggregate-record c = search needs
-
-record-requires : tie.Need-record-requires
-record-requires c κs = search needs
-
-refused-requires-2 : tie.Need-refused-requires-2
-refused-requires-2 c κs = search needs
-
-same-length-2 : tie.Need-same-length-2
-same-length-2 c = search needs
-
-returns-2 : tie.Need-returns-2
-returns-2 c =
-    refused-recording _ _ _ _ _ (c .before .before .before .before .before .before .before .before .before .before .before .before .read .ensures) (c .before .before .before .before .before .before .before .before .before .before .if1 .left) _ (c .before .before .before .before .before .before .before .«record» .ensures .0) (c .before .before .before .before .if2 .taken) (c .before .before .refused2 .ensures)
+returns c =
+    let r = c .before .before in
+    let t = r .before .before in
+    refused-printed _ _ _ _ _ (t .before .before .before .record-journal .ensures .0) (t .if1 .taken) (r .refused .ensures)
 
 sub-shown : tie.Need-sub-shown
 sub-shown c = search needs
@@ -46,37 +40,39 @@ part-shown-start c = search needs
 
 part-shown-end : tie.Need-part-shown-end
 part-shown-end c =
-    let w = c .before .before .before .before .«record» .ensures .0 in
-    let f = written-fits (c .before .before .before .before .before .before .before .before .before .read .result .run) (replicate 2034 0) in
-    omega (arith, ap (λ (x : Written). x .written) w, f, length-replicate {A = ℕ} 2034 0)
+    let d = done (c .before) in
+    omega (
+      arith,
+      ap (λ (x : Recorded). x .written) (d .record-journal .ensures .0),
+      written-fits (d .before .before .before .before .args .journal .now) (replicate 2034 0),
+      length-replicate {A = ℕ} 2034 0,
+    )
 
 shown-requires : tie.Need-shown-requires
 shown-requires c κs = search needs
 
-same-length-3 : tie.Need-same-length-3
-same-length-3 c = search needs
+same-length-2 : tie.Need-same-length-2
+same-length-2 c = search needs
 
-returns-3 : tie.Need-returns-3
-returns-3 c =
-    recording-shown _ _ _ _ _ (c .before .before .before .before .before .before .before .before .before .before .before .before .before .before .read .ensures) (c .before .before .before .before .before .before .before .before .before .before .before .before .if1 .left) _ _ (c .before .before .before .before .before .before .before .before .before .«record» .ensures .0) (c .before .before .before .before .before .before .before .before .before .«record» .ensures .1) (c .before .before .before .before .before .before .if2 .left)
-    (simp unary-clauses at (c .before .before .shown .ensures))
+returns-2 : tie.Need-returns-2
+returns-2 c =
+    let w = c .before .before in
+    let e = w .before .before .before .before in
+    recording-shown _ _ _ _ _ (done e .record-journal .ensures .0) _ (done e .record-journal .ensures .1) (e .if1 .left)
+    (simp unary-clauses at (w .shown .ensures))
 
 pub report-spec : {M : Type 1} → statement M
 report-spec =
     tie.close
     (tie.spec
-    read-requires
+    slice-aggregate-record-journal
+    record-journal-requires
     refused-requires
     same-length
     returns
-    slice-aggregate-record
-    record-requires
-    refused-requires-2
-    same-length-2
-    returns-2
     sub-shown
     part-shown-start
     part-shown-end
     shown-requires
-    same-length-3
-    returns-3)
+    same-length-2
+    returns-2)

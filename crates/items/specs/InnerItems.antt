@@ -1,20 +1,34 @@
 -- The items of a recording by place, over the definitions of the recording.
 use mathlib.Core.Path.{_≡_}
-use mathlib.Core.Bool.{cond}
-use mathlib.Core.List.{List, []}
-use Prim.Native.Nat.{ℕ, _+_, _-_, _/_, _%_, _<_}
-use lib.Dec.{ltb}
+use mathlib.Core.Bool.{Bool, cond, _&&_}
+use mathlib.Core.List.{List, [], _∷_}
+use Prim.Native.Nat.{ℕ, suc, _+_, _-_, _/_, _%_, _<_}
+use lib.Dec.{ltb, eqb}
 use lib.ListN.{length, getD}
-use Rattle.rules.specs.Below.{sumBelow}
-use Rattle.run.specs.State.{isChannel}
+use Rattle.rules.specs.Below.{sumBelow, listBelow}
+use Rattle.rules.specs.Change.{on}
 use Rattle.recording.specs.Layout.{joinBelow}
-use Rattle.recording.specs.Records.{sentWords, takenCount, itemsAt}
+use Rattle.recording.specs.InnerRecords.{isIn, sentWords, takenCount, itemsAt}
+use Rattle.channel.specs.Channels.{isChannel}
 
 -- The index of the zone that acts by a record, of the high byte of its word.
 abbrev pub ownerOf : ℕ → ℕ
 ownerOf high = cond (ltb high 64) (high / 8) (high % 8)
 
--- The numbers of the inside messages and of the inside receipts of each place.
+-- Has the record's word this high byte, and is its event inside those shown for the zone that acts by it?
+abbrev pub countsAt : ℕ → List ℕ → ℕ → ℕ → Bool
+countsAt high shown w number = eqb (w / 256) high && isIn number (getD shown (ownerOf high) 0)
+
+-- The number of such records, over some records and their numbers; then that number for each high byte.
+abbrev pub countAt : ℕ → List ℕ → List ℕ → List ℕ → ℕ
+countAt high shown [] ns = 0
+countAt high shown (w ∷ ws) [] = 0
+countAt high shown (w ∷ ws) (n ∷ ns) = on (countsAt high shown w n) suc (countAt high shown ws ns)
+
+unfoldable pub counts : List ℕ → List ℕ → List ℕ → List ℕ
+counts shown ws ns = listBelow 256 (λ high. countAt high shown ws ns)
+
+-- What these numbers say of channels: of each place, how many messages and how many receipts are inside.
 pub record Counted (seen shown ws ns : List ℕ) : Type 0 where
   pub sent : (k : ℕ) → k < 64 → getD seen k 0 ≡ length (sentWords k shown ws ns)
   pub taken : (k : ℕ) → k < 64 → getD seen (64 + k) 0 ≡ takenCount k shown ws ns

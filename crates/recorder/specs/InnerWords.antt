@@ -1,0 +1,72 @@
+-- The words of a recording by the zones' checkpoints and the records: what the code writes.
+use mathlib.Core.Path.{_≡_}
+use mathlib.Core.Bool.{cond, true, Bool, not, _||_}
+use mathlib.Core.List.{List, [], _∷_, _++_}
+use Prim.Native.Nat.{ℕ, _+_, _<_, _≤_}
+use lib.Dec.{ltb, leb}
+use lib.ListN.{length, getD, take}
+use Rattle.rules.specs.Below.{listBelow}
+use Rattle.rules.specs.Cut.{eventsOf, stockOf}
+use Rattle.rules.specs.Limits.{mostZones}
+use Rattle.rules.specs.Questions.{question, ask}
+use Rattle.rules.specs.Zone.{isPermanent}
+use Rattle.rules.specs.declared.Checkpoint.{Checkpoint}
+use Rattle.run.specs.State.{zoneAt, termsOf, countOf}
+use Rattle.journal.specs.Format.{headerOf, openedWith, recordWords}
+use Rattle.journal.specs.Writing.{Output, refusedOutput, writtenOutput, isReplayed}
+use Rattle.recording.specs.Layout.{joinBelow}
+use Rattle.items.specs.InnerItems.{allWords}
+use Rattle.words.specs.Bytes.{wordsBytes}
+use Rattle.channel.specs.Channels.{isChannel, itemsOn}
+use Rattle.run.specs.declared.Head.{Head}
+use Rattle.run.specs.Opening.{stockAt, openedRun}
+use Rattle.rules.specs.Site.{waits}
+use Rattle.run.specs.Claims.{WholeRun}
+use Rattle.run.specs.declared.Run.{Run}
+use Rattle.journal.specs.InnerOwns.{ownNumbers}
+use Rattle.channel.specs.declared.Channels.{Channels}
+
+-- The two words of a zone, of its checkpoint and its opening stock, and those of all zones.
+abbrev pub markWords : Checkpoint → ℕ → List ℕ
+markWords mark opening = (cond (isPermanent mark) 32768 0 + eventsOf mark) ∷ stockOf mark opening ∷ []
+
+unfoldable pub zonesWords : Head → List ℕ
+zonesWords h = joinBelow (countOf h) (λ i. markWords (zoneAt h i .checkpoint) (stockAt (h .opening) i))
+
+-- The events shown for each zone; 0 for a zone that the site does not have.
+unfoldable pub shownEvents : Head → List ℕ
+shownEvents h = listBelow mostZones (λ i. cond (ltb i (countOf h)) (eventsOf (zoneAt h i .checkpoint)) 0)
+
+-- The words of the items, over the records and their own-event numbers, and all words of the recording.
+abbrev pub itemsWords : Head → List ℕ → List ℕ → List ℕ
+itemsWords h ws ns = allWords (countOf h) (shownEvents h) ws ns
+
+abbrev pub recordedWords : Head → List ℕ → List ℕ → List ℕ
+recordedWords h ws ns = headerOf (termsOf h) (length (itemsWords h ws ns)) ∷ zonesWords h ++ itemsWords h ws ns
+
+unfoldable pub recordedBytes : Head → List ℕ → List ℕ → List ℕ
+recordedBytes h ws ns = wordsBytes (recordedWords h ws ns)
+
+-- What holds of a run that question 1 passes, so that its fields fit the words.
+pub record Fitting (h : Head) (ws ns : List ℕ) : Type 0 where
+  pub fewest : 1 ≤ countOf h
+  pub most : countOf h ≤ 8
+  pub events : (i : ℕ) → i < countOf h → eventsOf (zoneAt h i .checkpoint) ≤ 1000
+  pub records : length ws ≤ 1000
+  pub numbers : length ns ≡ length ws
+  pub items : length (itemsWords h ws ns) ≤ 1000
+
+-- Question 1 passes the run, and the own-event numbers of its records stand at the front of `owns`.
+pub record Replayed (r : Run) (owns : List ℕ) : Type 0 where
+  pub whole : WholeRun r
+  pub asked : isReplayed r ≡ true
+  pub numbers : take (r .head .records) owns ≡ ownNumbers (recordWords r) (openedRun (openedWith r))
+
+-- Is the site without a channel at place k, or is that channel free of requests?
+abbrev pub quietAt : ℕ → Channels → ℕ → Bool
+quietAt count l k = not (isChannel count k) || not (waits (itemsOn l k))
+
+-- Question 14, and what a writer of these bytes answers.
+unfoldable pub sizedOutput : List ℕ → List ℕ → Output
+sizedOutput lent bytes =
+    ask (question 14 (leb (length bytes) (length lent)) ∷ []) (refusedOutput lent) (writtenOutput lent bytes)
