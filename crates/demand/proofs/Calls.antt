@@ -1,13 +1,16 @@
--- Calls known by their contracts alone lead where the definitions lead. Assumes nothing.
+-- Calls known by their contracts alone lead where the definitions lead.
 use mathlib.Core.Path.{_≡_, refl, sym, ap, subst}
 use mathlib.Core.List.{List, _∷_}
 use lib.Dec.{eqb}
 use Rattle.rules.specs.Change.{cons-if}
 use Rattle.rules.specs.Site.{Call}
+use Rattle.run.specs.Calls.{answer}
 use Rattle.run.specs.Claims.{Typed, AllTyped}
-use Rattle.run.specs.Lists.{SiteCall, Send, Receive, Start, answer, callOf, after, acceptedCalls}
+use Rattle.run.specs.Lists.{callOf, after, acceptedCalls}
 use Rattle.run.specs.declared.Run.{Run}
 use Rattle.run.specs.declared.Answer.{Answer}
+use Rattle.run.specs.declared.SiteCall.{SiteCall}
+use Rattle.run.specs.declared.SiteCall.the-variants.{Send, Receive, Start}
 use Rattle.demand.specs.Made.{Answered, Made, done, then}
 
 answered-is : (c : SiteCall) (r : Run) (a : Answer) → Answered c r a → a ≡ answer c r

@@ -1,5 +1,5 @@
 -- The premises of demand 3 are met: every list of calls can be made from every opening, every recording call has an answer, and case A is
--- an instance whose recording is complete. Assumes nothing.
+-- an instance whose recording is complete.
 use mathlib.Core.Path.{_≡_, refl}
 use mathlib.Core.List.{List, [], _∷_}
 use Prim.Native.Nat.{ℕ}
@@ -12,27 +12,20 @@ use Rattle.rules.specs.Questions.{isCount, isOn}
 use Rattle.rules.specs.Sets.{has, members}
 use Rattle.local.specs.Asked.{requestedBy, startedBy}
 use Rattle.channel.specs.Words.{itemOf, messageWord}
-use Rattle.channel.specs.Channels.{pushed, movedDown, popped, allFree, requestedAll}
-use Rattle.run.specs.Calls.{isPair, openCall, sendCall, receiveCall, startCall}
+use Rattle.channel.specs.Channels.{isChannel, pushed, movedDown, popped, allFree, requestedAll}
+use Rattle.run.specs.Calls.{isPair, answer}
 use Rattle.run.specs.Claims.{AllTyped}
-use Rattle.run.specs.Lists.{SiteCall, Send, Receive, Start, answer, after, acceptedCalls}
-use Rattle.run.specs.Model.{stocksOf}
-use Rattle.run.specs.State.{
-  isChannel,
-  zoneSound,
-  zonesSound,
-  channelSound,
-  channelsSound,
-  stocks,
-  carsOnChannels,
-  partsSound,
-  hasStarted,
-  openedRun,
-}
+use Rattle.run.specs.Lists.{after, acceptedCalls}
+use Rattle.run.specs.Opening.{termsAs, openingAs, openingOf, openedRun, openCall}
+use Rattle.run.specs.State.{zoneSound, zonesSound, channelSound, channelsSound, stocks, carsOnChannels, partsSound, hasStarted}
+use Rattle.run.specs.declared.Opening.{Opening}
 use Rattle.run.specs.declared.Run.{Run}
+use Rattle.run.specs.declared.SiteCall.{SiteCall}
+use Rattle.run.specs.declared.SiteCall.the-variants.{Send, Receive, Start}
+use Rattle.run.specs.declared.Terms.{Terms}
 use Rattle.journal.specs.Format.{journalBytes, decode}
 use Rattle.journal.specs.Reading.{readCall}
-use Rattle.journal.specs.Writing.{sameLocal, sameChannel, sameZones, sameChannels, replaysTo, isReplayed}
+use Rattle.journal.specs.Writing.{sameLocal, sameChannel, sameZones, sameChannels, sameState, replaysTo, isReplayed}
 use Rattle.recording.specs.Call.{noRequests, recordCall}
 use Rattle.recording.specs.Layout.{itemWords, recordingBytes}
 use Rattle.recording.specs.Shown.{shownIn}
@@ -44,8 +37,8 @@ answered (Send from to cars) r = refl
 answered (Receive from to) r = refl
 answered (Start zone) r = refl
 
-pub opens : (κ : Lft) (count : ℕ) (v : RefT (List ℕ)) → Opened κ count v (openCall count (v .now))
-opens κ count v = refl
+pub opens : (κ : Lft) (terms : Terms) (stocks : RefT (List ℕ)) → Opened κ terms stocks (openCall (openingAs terms (stocks .now)))
+opens κ terms stocks = refl
 
 pub makes : (cs : List SiteCall) (r : Run) → AllTyped cs → Made r cs (acceptedCalls cs r) (after cs r)
 makes [] r t = done
@@ -56,8 +49,8 @@ pub records : (κ : Lft) (r : Run) (lent bytes : RefT (List ℕ)) → bytes .now
 records κ r lent bytes e = (refl, e)
 
 -- Case A: stocks 10, 20, 30 and its nine calls, with a refused one between.
-abbrev pub stocksA : List ℕ
-stocksA = 10 ∷ 20 ∷ 30 ∷ []
+abbrev pub openingA : Opening
+openingA = openingAs (termsAs 3) (10 ∷ 20 ∷ 30 ∷ [])
 
 abbrev pub callsA : List SiteCall
 callsA =
@@ -66,12 +59,12 @@ callsA =
 typedA : AllTyped callsA
 typedA = (omega arith, (tt, (omega arith, (omega arith, (tt, (tt, (omega arith, (tt, (tt, (tt, tt))))))))))
 
-openedA : openCall 3 stocksA .refusal ≡ 0
+openedA : openCall openingA .refusal ≡ 0
 unfolding openCall isCount
 openedA = refl
 
-answeredA : recordCall (after callsA (openCall 3 stocksA .run)) (replicate 16 0) .answer .refusal ≡ 0
-unfolding has members isCount isOn requestedBy startedBy itemOf messageWord pushed movedDown popped allFree requestedAll isChannel zoneSound zonesSound channelSound channelsSound stocks carsOnChannels partsSound hasStarted openedRun isPair openCall sendCall receiveCall startCall journalBytes decode readCall sameLocal sameChannel sameZones sameChannels replaysTo isReplayed noRequests recordCall itemWords recordingBytes
+answeredA : recordCall (after callsA (openCall openingA .run)) (replicate 16 0) .answer .refusal ≡ 0
+unfolding has members isCount isOn requestedBy startedBy itemOf messageWord pushed movedDown popped allFree requestedAll isChannel zoneSound zonesSound channelSound channelsSound stocks carsOnChannels partsSound hasStarted openedRun isPair openCall answer journalBytes decode readCall sameLocal sameChannel sameZones sameChannels sameState replaysTo isReplayed noRequests recordCall itemWords recordingBytes
 answeredA = refl
 
 -- A reference to other contents, at the same place.
@@ -80,11 +73,11 @@ to x l = record { ptr = x .ptr; name = x .name; now = l }
 
 -- So demand 3 says of case A, whatever the loans, that its recording, as the bytes written show it, is a consistent cut.
 pub case-a : (κ : Lft) (x : RefT (List ℕ))
-    → Cut (stocksOf stocksA) (acceptedCalls callsA (openCall 3 stocksA .run))
-    (shownIn (take (recordCall (after callsA (openCall 3 stocksA .run)) (replicate 16 0) .answer .written)
-    (recordCall (after callsA (openCall 3 stocksA .run)) (replicate 16 0) .bytes)))
+    → Cut (openingOf openingA) (acceptedCalls callsA (openCall openingA .run))
+    (shownIn (take (recordCall (after callsA (openCall openingA .run)) (replicate 16 0) .answer .written)
+    (recordCall (after callsA (openCall openingA .run)) (replicate 16 0) .bytes)))
 case-a κ x =
-    let r = after callsA (openCall 3 stocksA .run) in
+    let r = after callsA (openCall openingA .run) in
     let o = recordCall r (replicate 16 0) in
-    demand-three κ 3 (to x stocksA) (openCall 3 stocksA) (opens κ 3 (to x stocksA)) openedA callsA _ r (makes callsA (openCall 3 stocksA .run) typedA)
+    demand-three κ (openingA .terms) (to x (openingA .stocks)) (openCall openingA) (opens κ (openingA .terms) (to x (openingA .stocks))) openedA callsA _ r (makes callsA (openCall openingA .run) typedA)
     κ (to x (replicate 16 0)) (to x (o .bytes)) (o .answer) (records κ r (to x (replicate 16 0)) (to x (o .bytes)) refl) .cut answeredA

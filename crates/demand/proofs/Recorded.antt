@@ -1,4 +1,4 @@
--- Demand 3 of a true run and of the recording call's definition. Assumes nothing.
+-- Demand 3 of a true run and of the recording call's definition.
 use mathlib.Core.Path.{_≡_, refl, sym, _∙_, ap, ap₂, subst}
 use mathlib.Core.Bool.{Bool, true, false, cond, false≢true}
 use mathlib.Core.Logic.{inl, inr}
@@ -11,18 +11,23 @@ use lib.Seq.{take-append-seam}
 use lib.ListN.{length, take, drop}
 use Rattle.rules.specs.Change.{cons-if}
 use Rattle.rules.specs.Cut.{Cut, run, present, snapshot}
+use Rattle.rules.specs.Questions.{Among}
 use Rattle.rules.specs.Site.{Site, Call}
 use Rattle.rules.specs.Zone.{isPermanent, opened}
-use Rattle.run.specs.Calls.{openCall}
-use Rattle.run.specs.Claims.{Among, AllTyped, WholeRun, recordOf, acceptedRecords}
-use Rattle.run.specs.Lists.{SiteCall, answer, isAccepted, callOf, after, acceptedCalls}
-use Rattle.run.specs.Model.{siteOf, stocksOf}
-use Rattle.run.specs.State.{zoneAt, hasStarted}
+use Rattle.run.specs.Calls.{recordOf, answer}
+use Rattle.run.specs.Claims.{AllTyped, WholeRun, acceptedRecords}
+use Rattle.run.specs.Lists.{isAccepted, callOf, after, acceptedCalls}
+use Rattle.run.specs.Model.{siteOf}
+use Rattle.run.specs.Opening.{openingOf, openCall}
+use Rattle.run.specs.State.{termsOf, countOf, zoneAt, hasStarted}
 use Rattle.run.proofs.BelowLaws.{any-none}
+use Rattle.run.specs.declared.Opening.{Opening}
 use Rattle.run.specs.declared.Run.{Run}
+use Rattle.run.specs.declared.SiteCall.{SiteCall}
 use Rattle.run.proofs.Whole.{open-whole, after-whole}
-use Rattle.journal.specs.Format.{Record, consCall}
+use Rattle.journal.specs.Format.{openedWith, recordWords, consCall}
 use Rattle.journal.specs.Format as format
+use Rattle.journal.specs.declared.Record.{Record}
 use Rattle.journal.specs.Writing.{isReplayed, Output, refusedOutput, writtenOutput}
 use Rattle.journal.proofs.Replays.{named}
 use Rattle.journal.proofs.TrueRuns.{true-tells, true-replayed}
@@ -33,7 +38,7 @@ use Rattle.recording.specs.Shown.{shownIn}
 use Rattle.recording.proofs.Complete.{complete-if, if-complete}
 use Rattle.recording.proofs.Shows.{recording-shows, recording-cuts}
 use Rattle.recording.proofs.Sized.{recording-most}
-use Rattle.recording.proofs.Zones.{stocksAt, wordsAt, site-is}
+use Rattle.recording.proofs.Zones.{site-is}
 use Rattle.demand.specs.Demand.{Demand}
 
 -- The records of the accepted calls stand for these calls.
@@ -50,24 +55,24 @@ calls-decoded (c ∷ cs) r t = go (isAccepted c r) refl (calls-decoded cs (answe
 
 -- How the recording call answers once question 1 is answered yes.
 abbrev Started : Run → Type 0
-Started r = hasStarted (r .count) (r .zones) ≡ true
+Started r = hasStarted (r .head) ≡ true
 
 abbrev Free : Run → Type 0
-Free r = noRequests (r .count) (r .channels) ≡ true
+Free r = noRequests (countOf (r .head)) (r .channels) ≡ true
 
 abbrev bytesOf : Run → List ℕ
-bytesOf r = recordingBytes (r .count) (snapshotOf r)
+bytesOf r = recordingBytes (termsOf (r .head)) (snapshotOf r)
 
 record Answers (r : Run) (lent : List ℕ) (o : Output) : Type 0 where
   accepted : o .answer .refusal ≡ 0 → Started r × Free r × (take (o .answer .written) (o .bytes) ≡ bytesOf r)
   accepts : Started r → Free r → length (bytesOf r) ≤ length lent → o .answer .refusal ≡ 0
   refusals : Among (o .answer .refusal) (0 ∷ 12 ∷ 13 ∷ 14 ∷ [])
-  twelve : o .answer .refusal ≡ 12 → hasStarted (r .count) (r .zones) ≡ false
-  thirteen : o .answer .refusal ≡ 13 → noRequests (r .count) (r .channels) ≡ false
+  twelve : o .answer .refusal ≡ 12 → hasStarted (r .head) ≡ false
+  thirteen : o .answer .refusal ≡ 13 → noRequests (countOf (r .head)) (r .channels) ≡ false
   fourteen : o .answer .refusal ≡ 14 → Started r × Free r × (length lent < length (bytesOf r))
 
 -- The call's output by the answers to questions 12, 13 and 14.
-answered-by : (r : Run) (lent : List ℕ) (x y z : Bool) → hasStarted (r .count) (r .zones) ≡ x → noRequests (r .count) (r .channels) ≡ y
+answered-by : (r : Run) (lent : List ℕ) (x y z : Bool) → hasStarted (r .head) ≡ x → noRequests (countOf (r .head)) (r .channels) ≡ y
     → leb (length (bytesOf r)) (length lent) ≡ z
     → Answers r lent (cond x (cond y (cond z (writtenOutput lent (bytesOf r)) (refusedOutput lent 14)) (refusedOutput lent 13)) (refusedOutput lent 12))
 answered-by r lent false y z e f g = record {
@@ -106,15 +111,15 @@ answered-by r lent true true true e f g = record {
 record-answers : (r : Run) (lent : List ℕ) → isReplayed r ≡ true → Answers r lent (recordCall r lent)
 unfolding recordCall
 record-answers r lent e =
-    rw e (answered-by r lent (hasStarted (r .count) (r .zones)) (noRequests (r .count) (r .channels)) (leb (length (bytesOf r)) (length lent)) refl refl refl)
+    rw e (answered-by r lent (hasStarted (r .head)) (noRequests (countOf (r .head)) (r .channels)) (leb (length (bytesOf r)) (length lent)) refl refl refl)
 
 -- No zone is permanent where none of the site is.
-none-permanent : (r : Run) → hasStarted (r .count) (r .zones) ≡ false → (z : ℕ) → isPermanent (siteOf r .zone z .checkpoint) ≡ false
+none-permanent : (r : Run) → hasStarted (r .head) ≡ false → (z : ℕ) → isPermanent (siteOf r .zone z .checkpoint) ≡ false
 unfolding hasStarted
-none-permanent r e z = go (ltb z (r .count)) refl
+none-permanent r e z = go (ltb z (countOf (r .head))) refl
   where
-    go : (b : Bool) → ltb z (r .count) ≡ b → isPermanent (cond b (zoneAt (r .zones) z) (opened z 0) .checkpoint) ≡ false
-    go true h = any-none (r .count) (λ i. isPermanent (zoneAt (r .zones) i .checkpoint)) e z (ltb-true z (r .count) h)
+    go : (b : Bool) → ltb z (countOf (r .head)) ≡ b → isPermanent (cond b (zoneAt (r .head) z) (opened z 0) .checkpoint) ≡ false
+    go true h = any-none (countOf (r .head)) (λ i. isPermanent (zoneAt (r .head) i .checkpoint)) e z (ltb-true z (countOf (r .head)) h)
     go false h = refl
 
 -- Demand 3 of a run whose journal replays to it, in the run's own terms.
@@ -122,12 +127,12 @@ module _ (r : Run) (w : WholeRun r) (e : isReplayed r ≡ true) (lent : List ℕ
   answers : Answers r lent (recordCall r lent)
   answers = record-answers r lent e
 
-  replayed-demand : Demand (r .count) (stocksOf (stocksAt r)) (callsIn (wordsAt r)) r lent (recordCall r lent .answer) (recordCall r lent .bytes)
+  replayed-demand : Demand (openedWith r) (callsIn (recordWords r)) r lent (recordCall r lent .answer) (recordCall r lent .bytes)
   replayed-demand = record {
     only-complete = λ z. let a = answers .accepted z in complete-if r w e (a .0) (a .1);
     if-complete = λ c n. let h = if-complete r w e c in answers .accepts (h .0) (h .1) n;
     cut = λ z. let a = answers .accepted z in
-        subst (λ (bytes : List ℕ). Cut (stocksOf (stocksAt r)) (callsIn (wordsAt r)) (shownIn bytes)) (append-nil (bytesOf r) ∙ sym (a .2))
+        subst (λ (bytes : List ℕ). Cut (openingOf (openedWith r)) (callsIn (recordWords r)) (shownIn bytes)) (append-nil (bytesOf r) ∙ sym (a .2))
         (recording-cuts r w e (a .0) (a .1) []);
     ends = ap present (sym (site-is r w e));
     refusals = answers .refusals;
@@ -141,35 +146,35 @@ module _ (r : Run) (w : WholeRun r) (e : isReplayed r ≡ true) (lent : List ℕ
   replayed-shown z = ap shownIn (answers .accepted z .2 ∙ sym (append-nil (bytesOf r))) ∙ recording-shows r w e []
 
 -- Demand 3 of a true run, in the terms of the list of calls.
-module _ (count : ℕ) (stocks : List ℕ) (opened : openCall count stocks .refusal ≡ 0) (cs : List SiteCall) (typed : AllTyped cs) where
-  count-is : after cs (openCall count stocks .run) .count ≡ count
-  count-is = true-tells count stocks cs opened .count
+module _ (o : Opening) (opened : openCall o .refusal ≡ 0) (cs : List SiteCall) (typed : AllTyped cs) where
+  abbrev last : Run
+  last = after cs (openCall o .run)
 
-  stocks-are : stocksAt (after cs (openCall count stocks .run)) ≡ stocks
-  stocks-are =
-      let t = true-tells count stocks cs opened in
-      ap (λ (n : ℕ). take n (after cs (openCall count stocks .run) .opening)) (t .count) ∙ t .opening
+  abbrev calls : List Call
+  calls = acceptedCalls cs (openCall o .run)
 
-  calls-are : callsIn (wordsAt (after cs (openCall count stocks .run))) ≡ acceptedCalls cs (openCall count stocks .run)
-  calls-are = ap callsIn (true-tells count stocks cs opened .records) ∙ calls-decoded cs (openCall count stocks .run) typed
+  whole : WholeRun last
+  whole = after-whole cs (openCall o .run) (open-whole o)
+
+  opening-is : openedWith last ≡ o
+  opening-is = true-tells o cs opened .opening
+
+  calls-are : callsIn (recordWords last) ≡ calls
+  calls-are = ap callsIn (true-tells o cs opened .records) ∙ calls-decoded cs (openCall o .run) typed
 
   pub true-demand : (lent : List ℕ)
-      → Demand count (stocksOf stocks) (acceptedCalls cs (openCall count stocks .run)) (after cs (openCall count stocks .run)) lent
-      (recordCall (after cs (openCall count stocks .run)) lent .answer) (recordCall (after cs (openCall count stocks .run)) lent .bytes)
+      → Demand o (acceptedCalls cs (openCall o .run)) (after cs (openCall o .run)) lent
+      (recordCall (after cs (openCall o .run)) lent .answer) (recordCall (after cs (openCall o .run)) lent .bytes)
   true-demand lent =
-      let r = after cs (openCall count stocks .run) in
-      let w = after-whole cs (openCall count stocks .run) (open-whole count stocks) in
-      let o = recordCall r lent in
-      subst (λ (n : ℕ). Demand n (stocksOf stocks) (acceptedCalls cs (openCall count stocks .run)) r lent (o .answer) (o .bytes)) count-is
-      (subst (λ (x : List ℕ). Demand (r .count) (stocksOf x) (acceptedCalls cs (openCall count stocks .run)) r lent (o .answer) (o .bytes)) stocks-are
-      (subst (λ (x : List Call). Demand (r .count) (stocksOf (stocksAt r)) x r lent (o .answer) (o .bytes)) calls-are
-      (replayed-demand r w (true-replayed count stocks cs opened typed) lent)))
+      let done = recordCall last lent in
+      subst (λ (x : Opening). Demand x calls last lent (done .answer) (done .bytes)) opening-is
+      (subst (λ (x : List Call). Demand (openedWith last) x last lent (done .answer) (done .bytes)) calls-are
+      (replayed-demand last whole (true-replayed o cs opened typed) lent))
 
   -- The bytes written show the recording of the rules.
-  pub true-shown : (lent : List ℕ) → recordCall (after cs (openCall count stocks .run)) lent .answer .refusal ≡ 0
-      → shownIn (take (recordCall (after cs (openCall count stocks .run)) lent .answer .written) (recordCall (after cs (openCall count stocks .run)) lent .bytes))
-      ≡ snapshot (stocksOf stocks) (acceptedCalls cs (openCall count stocks .run))
+  pub true-shown : (lent : List ℕ) → recordCall (after cs (openCall o .run)) lent .answer .refusal ≡ 0
+      → shownIn (take (recordCall (after cs (openCall o .run)) lent .answer .written) (recordCall (after cs (openCall o .run)) lent .bytes))
+      ≡ snapshot (openingOf o) (acceptedCalls cs (openCall o .run))
   true-shown lent z =
-      let w = after-whole cs (openCall count stocks .run) (open-whole count stocks) in
-      replayed-shown (after cs (openCall count stocks .run)) w (true-replayed count stocks cs opened typed) lent z
-      ∙ ap₂ (λ (x : List ℕ) (y : List Call). snapshot (stocksOf x) y) stocks-are calls-are
+      replayed-shown last whole (true-replayed o cs opened typed) lent z
+      ∙ ap₂ (λ (x : Opening) (y : List Call). snapshot (openingOf x) y) opening-is calls-are

@@ -1,34 +1,36 @@
 -- Demand 3, whole: what is claimed of an accepted opening, any list of calls on its run, and a recording call after it.
 use mathlib.Core.Path.{_≡_}
-use mathlib.Core.Bool.{true, false}
+use mathlib.Core.Bool.{false}
 use mathlib.Core.List.{List, [], _∷_}
 use Prim.Native.Nat.{ℕ, _≤_, _<_}
 use lib.ListN.{length, take}
 use Rattle.rules.specs.Cut.{Complete, Cut, run, present, snapshot}
+use Rattle.rules.specs.Questions.{Among}
 use Rattle.rules.specs.Site.{Call, openS}
 use Rattle.rules.specs.Zone.{isPermanent}
-use Rattle.run.specs.Claims.{Among}
 use Rattle.run.specs.Model.{siteOf}
+use Rattle.run.specs.Opening.{openingOf}
+use Rattle.run.specs.declared.Opening.{Opening}
 use Rattle.run.specs.declared.Run.{Run}
 use Rattle.journal.specs.declared.Written.{Written}
 use Rattle.recording.specs.Layout.{recordingBytes}
 use Rattle.recording.specs.Shown.{shownIn}
 
--- n: the zone count; v: the opening stocks; cs: the accepted calls in order; r: the run after the list; lent: the bytes lent to the
--- recording call; w, bytes: what it answered, and the lent bytes after it.
-pub record Demand (n : ℕ) (v : ℕ → ℕ) (cs : List Call) (r : Run) (lent : List ℕ) (w : Written) (bytes : List ℕ) : Type 1 where
+-- o: the opening; cs: the accepted calls in order; r: the run after the list; lent: the bytes lent to the recording call; w, bytes: what
+-- it answered, and the lent bytes after it.
+pub record Demand (o : Opening) (cs : List Call) (r : Run) (lent : List ℕ) (w : Written) (bytes : List ℕ) : Type 1 where
   -- "Exactly when it is complete does a recording call after the list, lent enough bytes, answer 0."
-  pub only-complete : w .refusal ≡ 0 → Complete (run cs (openS v))
-  pub if-complete : Complete (run cs (openS v)) → length (recordingBytes n (snapshot v cs)) ≤ length lent → w .refusal ≡ 0
+  pub only-complete : w .refusal ≡ 0 → Complete (run cs (openS (openingOf o)))
+  pub if-complete : Complete (run cs (openS (openingOf o))) → length (recordingBytes (o .terms) (snapshot (openingOf o) cs)) ≤ length lent → w .refusal ≡ 0
   -- "The recorded zones (those shown firm), events, stocks and lines are those in the bytes it writes."
-  pub cut : w .refusal ≡ 0 → Cut v cs (shownIn (take (w .written) bytes))
+  pub cut : w .refusal ≡ 0 → Cut (openingOf o) cs (shownIn (take (w .written) bytes))
   -- The second part of the replay ends with "those of the run after the list, requests and marked bits left out".
-  pub ends : present (run cs (openS v)) ≡ present (siteOf r)
+  pub ends : present (run cs (openS (openingOf o))) ≡ present (siteOf r)
   -- "The new one may refuse to show a count of a true run only if none was started, a request is still under way or too few bytes were
   -- lent."
   pub refusals : Among (w .refusal) (0 ∷ 12 ∷ 13 ∷ 14 ∷ [])
-  pub not-started : w .refusal ≡ 12 → (z : ℕ) → isPermanent (run cs (openS v) .zone z .checkpoint) ≡ false
-  pub not-complete : w .refusal ≡ 13 → Complete (run cs (openS v)) → ⊥
-  pub too-few : w .refusal ≡ 14 → Complete (run cs (openS v)) × (length lent < length (recordingBytes n (snapshot v cs)))
+  pub not-started : w .refusal ≡ 12 → (z : ℕ) → isPermanent (run cs (openS (openingOf o)) .zone z .checkpoint) ≡ false
+  pub not-complete : w .refusal ≡ 13 → Complete (run cs (openS (openingOf o))) → ⊥
+  pub too-few : w .refusal ≡ 14 → Complete (run cs (openS (openingOf o))) × (length lent < length (recordingBytes (o .terms) (snapshot (openingOf o) cs)))
   -- 2,034 bytes are enough for any recording.
-  pub enough : length (recordingBytes n (snapshot v cs)) ≤ 2034
+  pub enough : length (recordingBytes (o .terms) (snapshot (openingOf o) cs)) ≤ 2034

@@ -7,9 +7,12 @@ use denote.Ref.{RefT}
 use Rattle.rules.specs.Change.{cons-if}
 use Rattle.rules.specs.Site.{Call}
 use Rattle.run.specs.Claims.{Typed}
-use Rattle.run.specs.Lists.{SiteCall, Send, Receive, Start, callOf}
+use Rattle.run.specs.Lists.{callOf}
 use Rattle.run.specs.declared.Run.{Run}
 use Rattle.run.specs.declared.Answer.{Answer}
+use Rattle.run.specs.declared.SiteCall.{SiteCall}
+use Rattle.run.specs.declared.SiteCall.the-variants.{Send, Receive, Start}
+use Rattle.run.specs.declared.Terms.{Terms}
 use Rattle.journal.specs.declared.Written.{Written}
 use Rattle.recorder.proofs.«record».Reads as recording
 use Rattle.site.proofs.«open».Reads as opening
@@ -18,8 +21,8 @@ use Rattle.site.proofs.receive.Reads as receive
 use Rattle.site.proofs.start.Reads as start
 
 -- What the contract of `site::open` says of an answer.
-abbrev pub Opened : Lft → ℕ → RefT (List ℕ) → Answer → Type 0
-Opened κ count stocks a = opening.Learnt (κ, tt) (count, (stocks, tt)) a (count, (stocks, tt))
+abbrev pub Opened : Lft → Terms → RefT (List ℕ) → Answer → Type 0
+Opened κ terms stocks a = opening.Learnt (κ, tt) (terms, (stocks, tt)) a (terms, (stocks, tt))
 
 -- What the contract of a call's function says of an answer.
 abbrev pub Answered : SiteCall → Run → Answer → Type 0

@@ -7,8 +7,9 @@ use lib.ListN.{take, drop, replicate}
 use Rattle.rules.specs.Site.{Item, message, request}
 use Rattle.rules.specs.declared.Checkpoint.the-variants.{None}
 use Rattle.rules.specs.declared.Local.{Local}
-use Rattle.run.specs.Lists.{SiteCall, Send, Receive, Start}
 use Rattle.run.specs.declared.Run.{Run}
+use Rattle.run.specs.declared.SiteCall.{SiteCall}
+use Rattle.run.specs.declared.SiteCall.the-variants.{Send, Receive, Start}
 use Rattle.journal.specs.Claims.{caseA}
 use Rattle.zone.proofs.Examples as zones
 use Rattle.edges.specs.Rows.{

@@ -10,9 +10,12 @@ use Rattle.rules.specs.Site.{Item, message, request}
 use Rattle.rules.specs.declared.Checkpoint.{Checkpoint}
 use Rattle.rules.specs.declared.Checkpoint.the-variants.{None, Mutable, Permanent}
 use Rattle.rules.specs.declared.Local.{Local}
-use Rattle.run.specs.Calls.{openCall}
-use Rattle.run.specs.Lists.{SiteCall, answer, after}
+use Rattle.run.specs.Calls.{answer}
+use Rattle.run.specs.Lists.{after}
+use Rattle.run.specs.Opening.{termsAs, openingAs, openCall}
+use Rattle.run.specs.declared.Opening.{Opening}
 use Rattle.run.specs.declared.Run.{Run}
+use Rattle.run.specs.declared.SiteCall.{SiteCall}
 use Rattle.run.specs.declared.Answer.{Answer}
 use Rattle.journal.specs.Reading.{readCall}
 use Rattle.journal.specs.Writing.{Output, writeCall}
@@ -26,7 +29,7 @@ use Rattle.report.specs.Report.{reportText}
 -- reading of a journal; the program's text of a journal. A row holds this and not its answer, so that the check computes each run only once.
 pub data Ask : Type 0 where
   Part : zones.Reply → Ask
-  Open : (count : ℕ) (stocks : List ℕ) → Ask
+  Open : Opening → Ask
   Call : Run → List SiteCall → SiteCall → Ask
   Record : Run → List SiteCall → (lent : List ℕ) → Ask
   Write : Run → List SiteCall → (lent : List ℕ) → Ask
@@ -43,7 +46,7 @@ pub data Reply : Type 0 where
 -- The answer, by the definitions that the contracts cite.
 abbrev pub reply : Ask → Reply
 reply (Part r) = part r
-reply (Open count stocks) = site (openCall count stocks)
+reply (Open o) = site (openCall o)
 reply (Call r cs c) = site (answer c (after cs r))
 reply (Record r cs lent) = output (recordCall (after cs r) lent)
 reply (Write r cs lent) = output (writeCall (after cs r) lent)
@@ -66,9 +69,9 @@ expectations (r ∷ rs) = r .expected ∷ expectations rs
 abbrev pub partRow : zones.Row → Row
 partRow r = record { ask = Part (r .answer); expected = part (r .expected) }
 
--- An opening, with the refusal's number and the run.
+-- An opening by its zone count and stocks, with the refusal's number and the run.
 abbrev pub opens : ℕ → List ℕ → ℕ → Run → Row
-opens count stocks n r = record { ask = Open count stocks; expected = site (record { refusal = n; run = r }) }
+opens count stocks n r = record { ask = Open (openingAs (termsAs count) stocks); expected = site (record { refusal = n; run = r }) }
 
 -- A call on a run after some calls, with the refusal's number and the run.
 abbrev pub gives : Run → List SiteCall → SiteCall → ℕ → Run → Row
@@ -154,10 +157,11 @@ zonesFrom k (suc n) (z ∷ zs) = z ∷ zonesFrom (suc k) n zs
 -- A run: its opening stocks, its zones, its channels that are not empty, and the words of its records.
 abbrev pub runWith : List ℕ → List Local → List Channel → List ℕ → Run
 runWith opening zones channels records = record {
-  count = length opening;
-  records = length records;
-  zones = zonesFrom 0 8 zones;
-  opening = padded 8 opening;
+  head = record {
+    opening = record { terms = record { count = length opening }; stocks = padded 8 opening };
+    records = length records;
+    zones = zonesFrom 0 8 zones;
+  };
   channels = record { items = wordsFrom 0 64 channels; lens = lengthsFrom 0 64 channels };
   journal = padded 1000 records;
 }

@@ -1,4 +1,4 @@
--- `cases::main` ends: the number of turns left falls. Assumes nothing.
+-- `cases::main` ends: the number of turns left falls.
 use borrow.Author.Needs.{needs}
 use Rattle.cases.proofs.main.Statement.{statement}
 use Rattle.cases.proofs.main.Tie as tie

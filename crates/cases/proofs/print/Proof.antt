@@ -1,4 +1,4 @@
--- `cases::print` meets its contract: what is written lies within the buffer. Assumes nothing.
+-- `cases::print` meets its contract: what is written lies within the buffer.
 use Rattle.report.proofs.Within.{prints-within, prints-taken}
 use borrow.Author.Needs.{needs}
 use Rattle.cases.proofs.print.Statement.{statement}

@@ -1,4 +1,4 @@
--- `cut_recorder::main` meets its contract: what is written lies within the buffer. Assumes nothing.
+-- `cut_recorder::main` meets its contract: what is written lies within the buffer.
 use Rattle.report.proofs.Within.{prints-within, prints-taken}
 use borrow.Author.Needs.{needs}
 use Rattle.cut_recorder.proofs.main.Statement.{statement}
