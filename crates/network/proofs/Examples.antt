@@ -1,24 +1,25 @@
--- A network of two zones whose recording is complete: the premises of its theorem can be met. Assumes nothing.
+-- A network of two zones whose recording is complete: the premises of its theorem can be met.
 use mathlib.Core.Path.{_≡_, refl, sym, _∙_, ap, subst}
 use mathlib.Core.Bool.{Bool, true, false, _&&_, cond, and-false}
 use mathlib.Core.List.{List, [], _∷_, tail}
 use Prim.Native.Nat.{ℕ, _≤_}
 use native.Mathlib.Omega.{arith}
 use lib.Dec.{eqb}
+use Rattle.rules.specs.Opening.{Opening}
 use Rattle.rules.specs.Change.{on, join}
-use Rattle.rules.specs.Cut.{Complete, Cut}
+use Rattle.rules.specs.Cut.{Complete, Cut, snapshot}
 use Rattle.rules.specs.Questions.{isCount, isOn}
 use Rattle.rules.specs.Sets.{has}
 use Rattle.rules.specs.Site.{Item, message, request, Call, send, receive, start, waits}
 use Rattle.rules.proofs.SetLaws.{has-only, has-nobody}
 use Rattle.local.specs.Asked.{requestedBy, startedBy}
 use Rattle.zone.specs.Zone.{isSound, isOther, sendStep, receiveStep, requestStep, startStep}
-use Rattle.network.specs.Network.{openNetwork, after, acceptedCalls, starts, siteOf, shownBy}
-use Rattle.network.proofs.Network.{network-shows}
+use Rattle.network.specs.Network.{openNetwork, after, acceptedCalls, starts, siteOf}
+use Rattle.network.proofs.Network.{network-consistent}
 
 -- Zone 2 is opened full.
-abbrev stocks : ℕ → ℕ
-stocks k = cond (eqb k 0) 10 65535
+abbrev opening : Opening
+opening = record { stocks = λ k. cond (eqb k 0) 10 65535 }
 
 -- The first receipt is refused, as zone 2 has no room for 4 cars more; the message stays on its channel and is received later. The
 -- second start and the last are refused, as their zones are marked.
@@ -29,7 +30,7 @@ calls =
 abbrev acceptedOnes : List Call
 acceptedOnes = send 0 1 4 ∷ send 1 0 4 ∷ receive 0 1 ∷ start 1 ∷ receive 1 0 ∷ receive 1 0 ∷ []
 
-accepted-ones : acceptedCalls calls (openNetwork 2 stocks) ≡ acceptedOnes
+accepted-ones : acceptedCalls calls (openNetwork 2 opening) ≡ acceptedOnes
 unfolding isCount isOn isSound isOther sendStep receiveStep requestStep startStep requestedBy startedBy has
 accepted-ones = refl
 
@@ -46,19 +47,19 @@ emptied true false = refl
 emptied false true = refl
 emptied false false = refl
 
-channel-is : (i j : ℕ) → after calls (openNetwork 2 stocks) .channel i j
+channel-is : (i j : ℕ) → after calls (openNetwork 2 opening) .channel i j
     ≡ channelItems (eqb i 0 && eqb j 1) (eqb i 1 && eqb j 0) (eqb i 1 && has 0 j) (eqb i 1 && has 1 j) (eqb i 0 && has 0 j)
 unfolding isCount isOn isSound isOther sendStep receiveStep requestStep startStep requestedBy startedBy has
 channel-is i j = refl
 
-empty-channel : (i j : ℕ) → after calls (openNetwork 2 stocks) .channel i j ≡ []
+empty-channel : (i j : ℕ) → after calls (openNetwork 2 opening) .channel i j ≡ []
 empty-channel i j = channel-is i j ∙ rw (has-nobody j, has-only 0 j, and-false (eqb i 0), and-false (eqb i 1)) (emptied (eqb i 0 && eqb j 1) (eqb i 1 && eqb j 0))
 
-complete : Complete (siteOf (after calls (openNetwork 2 stocks)))
+complete : Complete (siteOf (after calls (openNetwork 2 opening)))
 unfolding isCount isOn isSound isOther sendStep receiveStep requestStep startStep requestedBy startedBy has
 complete = ((1, refl), λ i j. ap waits (empty-channel i j))
 
--- So its recording is a consistent cut of them.
-pub example-cut : Cut stocks (acceptedCalls calls (openNetwork 2 stocks))
-    (shownBy stocks (acceptedCalls calls (openNetwork 2 stocks)) (siteOf (after calls (openNetwork 2 stocks))))
-example-cut = network-shows 2 stocks calls (subst (λ (cs : List Call). starts cs ≤ 1) (sym accepted-ones) (omega arith)) complete
+-- So what is shown of them is a consistent cut of them.
+pub example-cut : Cut opening acceptedOnes (snapshot opening acceptedOnes)
+example-cut = subst (λ (cs : List Call). Cut opening cs (snapshot opening cs)) accepted-ones
+    (network-consistent 2 opening calls (subst (λ (cs : List Call). starts cs ≤ 1) (sym accepted-ones) (omega arith)) complete)

@@ -1,7 +1,8 @@
 -- Zone parts on a maker's own channels record as consistently as the site does: what they do is what the rules say, if a refused item
--- stays on its channel and at most one start is accepted. Assumes nothing.
+-- stays on its channel and at most one start is accepted.
 use mathlib.Core.Path.{_≡_, refl, sym, _∙_, ap, subst}
 use mathlib.Core.Bool.{Bool, true, false, cond, _&&_, not, and-false, false≢true}
+use mathlib.Core.Logic.{_⊎_, inl, inr}
 use mathlib.Core.List.{List, [], _∷_, tail}
 use mathlib.Core.Option.{Option, none, some}
 use Prim.Native.Nat.{ℕ, suc, _+_, _≤_}
@@ -9,9 +10,10 @@ use native.Mathlib.Omega.{arith}
 use lib.Dec.{eqb, leb}
 use borrow.Author.Tests.{eqb-true, leb-true}
 use Rattle.rules.specs.Change.{on, join, cons-if}
-use Rattle.rules.specs.Cut.{May, Allowed, run, Complete, Cut, snapshot}
+use Rattle.rules.specs.Opening.{Opening}
+use Rattle.rules.specs.Cut.{May, Allowed, run, Complete, Cut, shownBy, snapshot}
 use Rattle.rules.specs.Limits.{mostCars}
-use Rattle.rules.specs.Questions.{Question, question, ask, index}
+use Rattle.rules.specs.Questions.{Question, question, ask, Among, index}
 use Rattle.rules.specs.Sets.{has, nobody, within}
 use Rattle.rules.specs.Site.{Item, message, request, Site, sendS, popS, askS, receiveS, turnS, requestS, startS, takeS, Call, send, receive, start, stepS, openS}
 use Rattle.rules.specs.Zone.{isMarked, isPermanent, opened, sent, received, started, requested, asked, carried}
@@ -19,7 +21,8 @@ use Rattle.rules.specs.declared.Checkpoint.{Checkpoint}
 use Rattle.rules.specs.declared.Checkpoint.the-variants.{None, Mutable, Permanent}
 use Rattle.rules.specs.declared.Local.{Local}
 use Rattle.rules.proofs.Guarded.{on-true, on-false, on-map-at, on-same-at}
-use Rattle.rules.proofs.Lists.{All}
+use Rattle.rules.proofs.AskLaws.{AllYes, numbers, lacks, not-among, ask-cases}
+use Rattle.rules.proofs.SiteLaws.{site≡}
 use Rattle.rules.proofs.SetLaws.{has-nobody}
 use Rattle.rules.proofs.History.{History, openH, initiatorAfter, stepH}
 use Rattle.rules.proofs.Kept.{Fresh, fresh-open, fresh-call}
@@ -28,19 +31,20 @@ use Rattle.local.specs.Asked.{askedAs, requestedBy, startedBy}
 use Rattle.zone.specs.Zone.{localOf, withLocal, isSound, isOther, hasRoom, refused, accepted, asking, sendStep, receiveStep, requestStep, startStep}
 use Rattle.zone.specs.declared.Step.{Step}
 use Rattle.zone.specs.declared.Zone.{Zone}
-use Rattle.network.specs.Network.{Network, openNetwork, takeStep, answer, isAccepted, asks, popped, stored, storedIf, made, after, acceptedCalls, starts, siteOf, shownBy}
+use Rattle.network.specs.Network.{Network, openNetwork, takeStep, answer, isAccepted, asks, popped, stored, storedIf, made, after, acceptedCalls, starts, siteOf}
 
--- A step that is accepted has passed all its questions, and is what they guard.
-passed : (qs : List Question) (z : Zone) (x : Step) → All (λ q. eqb (q .number) 0 ≡ false) qs → eqb (ask qs (refused z) x .refusal) 0 ≡ true
-    → (ask qs (refused z) x ≡ x) × All (λ q. q .yes ≡ true) qs
-passed [] z x n e = (refl, tt)
-passed (q ∷ qs) z x n e = go (passed qs z x (n .1)) (q .yes) refl e
+-- Where no question has the number 0, an answer with refusal 0 is what the questions guard, and all of them were answered yes.
+pub ask-accepted : {A : Type 0} (number : A → ℕ) (qs : List Question) (f : ℕ → A) (x : A) → ((m : ℕ) → number (f m) ≡ m)
+    → lacks 0 (numbers qs) ≡ true → number (ask qs f x) ≡ 0 → AllYes qs × (ask qs f x ≡ x)
+ask-accepted {A} number qs f x named n e = go (ask-cases qs f x)
   where
-    go : (eqb (ask qs (refused z) x .refusal) 0 ≡ true → (ask qs (refused z) x ≡ x) × All (λ q. q .yes ≡ true) qs)
-        → (p : Bool) → q .yes ≡ p → eqb (cond p (ask qs (refused z) x) (refused z (q .number)) .refusal) 0 ≡ true
-        → (cond p (ask qs (refused z) x) (refused z (q .number)) ≡ x) × All (λ q. q .yes ≡ true) (q ∷ qs)
-    go ih true y e = let r = ih e in (r .0, (y, r .1))
-    go ih false y e = absurd (false≢true (sym (n .0) ∙ e))
+    go : (AllYes qs × (ask qs f x ≡ x)) ⊎ ((m : ℕ) × Among m (numbers qs) × (ask qs f x ≡ f m)) → AllYes qs × (ask qs f x ≡ x)
+    go (inl h) = h
+    go (inr (m, a, q)) = absurd (not-among m 0 (numbers qs) a n (sym (named m) ∙ sym (ap number q) ∙ e))
+
+passed : (qs : List Question) (z : Zone) (x : Step) → lacks 0 (numbers qs) ≡ true → eqb (ask qs (refused z) x .refusal) 0 ≡ true
+    → AllYes qs × (ask qs (refused z) x ≡ x)
+passed qs z x n e = ask-accepted (λ (s : Step). s .refusal) qs (refused z) x (λ m. refl) n (eqb-true (ask qs (refused z) x .refusal) 0 e)
 
 send-step : (z : Zone) (to cars : ℕ) → eqb (sendStep z to cars .refusal) 0 ≡ true
     → (sendStep z to cars ≡ accepted (withLocal z (sent cars (localOf z))) (isMarked (z .checkpoint)) nobody nobody) × (cars ≤ z .stock)
@@ -48,29 +52,26 @@ unfolding sendStep
 send-step z to cars e =
     let r = passed
     (question 1 (isSound z) ∷ question 5 (isOther z to) ∷ question 6 (hasRoom z) ∷ question 7 (leb cars (z .stock)) ∷ [])
-    z (accepted (withLocal z (sent cars (localOf z))) (isMarked (z .checkpoint)) nobody nobody) (refl, (refl, (refl, (refl, tt)))) e in
-    (r .0, leb-true cars (z .stock) (r .1 .1 .1 .1 .0))
+    z (accepted (withLocal z (sent cars (localOf z))) (isMarked (z .checkpoint)) nobody nobody) refl e in
+    (r .1, leb-true cars (z .stock) (r .0 .1 .1 .1 .0))
 
 receive-step : (z : Zone) (from cars : ℕ) (flag : Bool) → eqb (receiveStep z from cars flag .refusal) 0 ≡ true
     → receiveStep z from cars flag ≡ accepted (withLocal z (received (index from) cars flag (localOf z))) false nobody nobody
 unfolding receiveStep
 receive-step z from cars flag e = passed
     (question 1 (isSound z) ∷ question 5 (isOther z from) ∷ question 6 (hasRoom z) ∷ question 20 (leb (z .stock + cars) mostCars) ∷ [])
-    z (accepted (withLocal z (received (index from) cars flag (localOf z))) false nobody nobody) (refl, (refl, (refl, (refl, tt)))) e .0
+    z (accepted (withLocal z (received (index from) cars flag (localOf z))) false nobody nobody) refl e .1
 
 request-step : (z : Zone) (set : ℕ) → eqb (requestStep z set .refusal) 0 ≡ true
     → requestStep z set ≡ asking z (requestedBy (index (z .number)) set (localOf z))
 unfolding requestStep
 request-step z set e = passed (question 1 (isSound z) ∷ question 5 (within set (z .count)) ∷ []) z
-    (asking z (requestedBy (index (z .number)) set (localOf z))) (refl, (refl, tt)) e .0
+    (asking z (requestedBy (index (z .number)) set (localOf z))) refl e .1
 
 start-step : (z : Zone) → eqb (startStep z .refusal) 0 ≡ true → startStep z ≡ asking z (startedBy (index (z .number)) (localOf z))
 unfolding startStep
 start-step z e = passed (question 1 (isSound z) ∷ question 11 (not (isMarked (z .checkpoint))) ∷ []) z
-    (asking z (startedBy (index (z .number)) (localOf z))) (refl, (refl, tt)) e .0
-
-site≡ : (s t : Site) → ((k : ℕ) → s .zone k ≡ t .zone k) → ((i j : ℕ) → s .channel i j ≡ t .channel i j) → s ≡ t
-site≡ s t p q = λ x. record { zone = λ k. p k x; channel = λ i j. q i j x }
+    (asking z (startedBy (index (z .number)) (localOf z))) refl e .1
 
 -- The zone at index k has the number k + 1.
 abbrev pub Numbered : Network → Type 0
@@ -290,28 +291,27 @@ follows (c ∷ cs) net h num f e one = go (λ t. follows cs (made c net) t (numb
     go ih false q one = ih h f (ap siteOf (refused-kept c net q) ∙ e) one
 
 -- The opening is that of the rules.
-opening : (n : ℕ) (v : ℕ → ℕ) → siteOf (openNetwork n v) ≡ openS v
-opening n v = site≡ _ _ (λ k. ap (λ (i : ℕ). opened i (v k)) (index-of k (k + 1) refl)) (λ i j. refl)
+opening : (n : ℕ) (o : Opening) → siteOf (openNetwork n o) ≡ openS o
+opening n o = site≡ _ _ (λ k. ap (λ (i : ℕ). opened i (o .stocks k)) (index-of k (k + 1) refl)) (λ i j. refl)
 
--- Whatever the zone count, the opening stocks and the calls: if at most one start was accepted, the accepted calls are such as the
--- rules allow, and lead the rules to the zones and channels that the network has.
-pub network-follows : (n : ℕ) (v : ℕ → ℕ) (cs : List Call) → starts (acceptedCalls cs (openNetwork n v)) ≤ 1
-    → Allowed (acceptedCalls cs (openNetwork n v)) (openS v)
-    × (siteOf (after cs (openNetwork n v)) ≡ run (acceptedCalls cs (openNetwork n v)) (openS v))
-network-follows n v cs one = follows cs (openNetwork n v) (openH v) (λ k. refl) (fresh-open v) (opening n v) (omega arith)
+-- Whatever the zone count, the opening and the calls, if at most one start was accepted.
+module _ (n : ℕ) (o : Opening) (cs : List Call) (one : starts (acceptedCalls cs (openNetwork n o)) ≤ 1) where
+  -- The network after the calls, and those of them that were accepted.
+  abbrev net : Network
+  net = after cs (openNetwork n o)
 
--- So, when the recording is complete, it is a consistent cut of the accepted calls: demand 3 over the maker's own channels.
-pub network-consistent : (n : ℕ) (v : ℕ → ℕ) (cs : List Call) → starts (acceptedCalls cs (openNetwork n v)) ≤ 1
-    → Complete (siteOf (after cs (openNetwork n v)))
-    → Cut v (acceptedCalls cs (openNetwork n v)) (snapshot v (acceptedCalls cs (openNetwork n v)))
-network-consistent n v cs one done =
-    let r = network-follows n v cs one in
-    consistent v (acceptedCalls cs (openNetwork n v)) (r .0) (subst Complete (r .1) done)
+  abbrev ones : List Call
+  ones = acceptedCalls cs (openNetwork n o)
 
--- The same of the recording that the network's own zones show.
-pub network-shows : (n : ℕ) (v : ℕ → ℕ) (cs : List Call) → starts (acceptedCalls cs (openNetwork n v)) ≤ 1
-    → Complete (siteOf (after cs (openNetwork n v)))
-    → Cut v (acceptedCalls cs (openNetwork n v)) (shownBy v (acceptedCalls cs (openNetwork n v)) (siteOf (after cs (openNetwork n v))))
-network-shows n v cs one done = subst
-    (λ (s : Site). Cut v (acceptedCalls cs (openNetwork n v)) (shownBy v (acceptedCalls cs (openNetwork n v)) s))
-    (sym (network-follows n v cs one .1)) (network-consistent n v cs one done)
+  -- The accepted calls are such as the rules allow, and lead the rules to the zones and channels that the network has.
+  pub network-follows : Allowed ones (openS o) × (siteOf net ≡ run ones (openS o))
+  network-follows = follows cs (openNetwork n o) (openH o) (λ k. refl) (fresh-open o) (opening n o) (omega arith)
+
+  -- So, when the recording is complete, what the rules show is a consistent cut of the accepted calls: demand 3 over the maker's own
+  -- channels.
+  pub network-consistent : Complete (siteOf net) → Cut o ones (snapshot o ones)
+  network-consistent done = consistent o ones (network-follows .0) (subst Complete (network-follows .1) done)
+
+  -- What the network's own zones show is what the rules show: the recorded zones, their events and stocks, and the lines by these events.
+  pub network-shows : shownBy o ones (siteOf net) ≡ snapshot o ones
+  network-shows = ap (shownBy o ones) (network-follows .1)

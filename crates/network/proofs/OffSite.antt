@@ -1,34 +1,28 @@
--- A zone part that was opened is the network's, and a zone whose number is above the count takes part in no call. Assumes nothing.
-use mathlib.Core.Path.{_≡_, refl}
-use mathlib.Core.Bool.{Bool, true, false, cond, and-false}
+-- A zone part that was opened is the network's, and a zone whose number is above the count takes part in no call.
+use mathlib.Core.Path.{_≡_, refl, ap}
+use mathlib.Core.Bool.{Bool, true, false, and-false}
 use mathlib.Core.List.{List, [], _∷_}
 use Prim.Native.Nat.{ℕ, _+_, _≤_}
 use native.Mathlib.Omega.{arith}
 use lib.Dec.{eqb, leb}
 use borrow.Author.Tests.{leb-true}
-use Rattle.rules.specs.Questions.{isCount, isOn}
+use Rattle.rules.specs.Opening.{Opening}
+use Rattle.rules.specs.Questions.{question, isCount, isOn}
 use Rattle.rules.specs.Site.{Item, message, request, Call, send, receive, start}
 use Rattle.zone.specs.Zone.{isSound, openedZone, openZone, sendStep, receiveStep, requestStep, startStep}
-use Rattle.zone.specs.declared.Opening.{Opening}
+use Rattle.zone.specs.declared.Opening.{Opening as Opened}
 use Rattle.zone.specs.declared.Zone.{Zone}
 use Rattle.network.specs.Network.{Network, openNetwork, takeStep, answer, isAccepted, made, after}
-use Rattle.network.proofs.Network.{Numbered, numbered, call-keeps}
+use Rattle.network.proofs.Network.{ask-accepted, Numbered, numbered, call-keeps}
 
 -- An accepted opening hands back the zone that the network has at that index.
-pub opened-zone : (n : ℕ) (v : ℕ → ℕ) (k : ℕ) → openZone n (k + 1) (v k) .refusal ≡ 0
-    → openZone n (k + 1) (v k) .zone ≡ openNetwork n v .zone k
+pub opened-zone : (n : ℕ) (o : Opening) (k : ℕ) → openZone n (k + 1) (o .stocks k) .refusal ≡ 0
+    → openZone n (k + 1) (o .stocks k) .zone ≡ openNetwork n o .zone k
 unfolding openZone
-opened-zone n v k e = go (isCount n) (isOn n (k + 1)) e
-  where
-    answered : Bool → Bool → Opening
-    answered p q = cond p
-        (cond q (record { refusal = 0; zone = openedZone n (k + 1) (v k) }) (record { refusal = 5; zone = openedZone 2 1 0 }))
-        (record { refusal = 2; zone = openedZone 2 1 0 })
-
-    go : (p q : Bool) → answered p q .refusal ≡ 0 → answered p q .zone ≡ openedZone n (k + 1) (v k)
-    go true true e = refl
-    go true false e = absurd (omega arith)
-    go false q e = absurd (omega arith)
+opened-zone n o k e = ap (λ (x : Opened). x .zone)
+    (ask-accepted (λ (x : Opened). x .refusal) (question 2 (isCount n) ∷ question 5 (isOn n (k + 1)) ∷ [])
+    (λ m. record { refusal = m; zone = openedZone 2 1 0 }) (record { refusal = 0; zone = openedZone n (k + 1) (o .stocks k) })
+    (λ m. refl) refl e .1)
 
 -- The zone whose step a call is.
 abbrev pub stepOf : Call → ℕ
@@ -76,8 +70,8 @@ kept (c ∷ cs) n net num same =
     kept cs n (made c net) (numbered net num c) (call-keeps (λ z. z .count) (λ z l. refl) (λ k. n) net same c)
 
 -- After whatever calls, a step of a zone whose number is above the count is refused.
-pub off-site : (n : ℕ) (v : ℕ → ℕ) (cs : List Call) (c : Call) → n ≤ stepOf c
-    → isAccepted (answer c (after cs (openNetwork n v))) ≡ false
-off-site n v cs c h =
-    let r = kept cs n (openNetwork n v) (λ k. refl) (λ k. refl) in
-    refused-off n (after cs (openNetwork n v)) (r .0) (r .1) c h
+pub off-site : (n : ℕ) (o : Opening) (cs : List Call) (c : Call) → n ≤ stepOf c
+    → isAccepted (answer c (after cs (openNetwork n o))) ≡ false
+off-site n o cs c h =
+    let r = kept cs n (openNetwork n o) (λ k. refl) (λ k. refl) in
+    refused-off n (after cs (openNetwork n o)) (r .0) (r .1) c h

@@ -6,12 +6,10 @@ use mathlib.Core.List.{List, [], _∷_, tail}
 use mathlib.Core.Option.{Option, none, some}
 use Prim.Native.Nat.{ℕ, suc, _+_}
 use lib.Dec.{eqb}
+use Rattle.rules.specs.Opening.{Opening}
 use Rattle.rules.specs.Change.{on, join, cons-if}
-use Rattle.rules.specs.Cut.{Snapshot, eventsOf, stockOf, channelOf, moves}
-use Rattle.rules.specs.Park.{inside}
 use Rattle.rules.specs.Sets.{has}
-use Rattle.rules.specs.Site.{Item, message, request, Site, Call, send, receive, start, openS}
-use Rattle.rules.specs.Zone.{isPermanent}
+use Rattle.rules.specs.Site.{Item, message, request, Site, Call, send, receive, start}
 use Rattle.zone.specs.Zone.{localOf, openedZone, sendStep, receiveStep, requestStep, startStep}
 use Rattle.zone.specs.declared.Step.{Step}
 use Rattle.zone.specs.declared.Zone.{Zone}
@@ -21,10 +19,10 @@ pub record Network : Type 0 where
   pub zone : ℕ → Zone
   pub channel : ℕ → ℕ → List Item
 
--- Zones opened with these stocks, as zones of a site of so many, and empty channels. No zone part is opened for a
--- number above the count; here such a zone refuses every step.
-abbrev pub openNetwork : ℕ → (ℕ → ℕ) → Network
-openNetwork count stocks = record { zone = λ k. openedZone count (k + 1) (stocks k); channel = λ i j. [] }
+-- The network of an opening: its zones, as zones of a site of so many, and empty channels. No zone part is opened for a number above
+-- the count; here such a zone refuses every step.
+abbrev pub openNetwork : ℕ → Opening → Network
+openNetwork count o = record { zone = λ k. openedZone count (k + 1) (o .stocks k); channel = λ i j. [] }
 
 -- What the zone part answers to the first item of a channel from the zone of this number; none: the channel is empty.
 abbrev pub takeStep : ℕ → List Item → Zone → Option Step
@@ -89,20 +87,6 @@ starts (send a b cars ∷ cs) = starts cs
 starts (receive a b ∷ cs) = starts cs
 starts (start a ∷ cs) = suc (starts cs)
 
--- The site of the rules that a network stands for.
+-- The site of the rules that a network stands for. What is shown of its accepted calls is what the rules show: `snapshot`.
 abbrev pub siteOf : Network → Site
 siteOf net = record { zone = λ k. localOf (net .zone k); channel = net .channel }
-
--- The recording that a site shows after the calls cs from the stocks v: which zones have a permanent checkpoint ("are firm"), what
--- these keep, and the channels that follow from the calls inside it.
-abbrev pub shownBy : (ℕ → ℕ) → List Call → Site → Snapshot
-shownBy v cs s =
-    let events : ℕ → ℕ = λ k. eventsOf (s .zone k .checkpoint) in
-    record {
-      recorded = λ k. isPermanent (s .zone k .checkpoint);
-      events = events;
-      park = record {
-        stock = λ k. stockOf (s .zone k .checkpoint) (v k);
-        channel = channelOf (inside events (moves cs (openS v)));
-      };
-    }

@@ -1,5 +1,4 @@
--- What the sets of an accepted step say: the zone itself is never asked, and there are as many requests as zones in the set. Assumes
--- nothing.
+-- What the sets of an accepted step say: the zone itself is never asked, and there are as many requests as zones in the set.
 use mathlib.Core.Path.{_≡_, refl, _∙_}
 use mathlib.Core.Bool.{Bool, true, false, not, _&&_, _||_}
 use Prim.Native.Nat.{ℕ, _<_}

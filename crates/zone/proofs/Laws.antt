@@ -1,4 +1,4 @@
--- What the zone part's tests say of numbers, and a call's negated test of its callee's meaning. Assumes nothing.
+-- What the zone part's tests say of numbers, and a call's negated test of its callee's meaning.
 use mathlib.Core.Path.{_≡_}
 use mathlib.Core.Bool.{true, not, _&&_, and-eq-true-iff}
 use Prim.Native.Nat.{ℕ, _≤_}

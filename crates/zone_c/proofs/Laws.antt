@@ -1,4 +1,4 @@
--- On every struct that a call gave, a call for C is the zone part's step: so a list of them is the same list of steps. Assumes nothing.
+-- On every struct that a call gave, a call for C is the zone part's step.
 use mathlib.Core.Path.{_≡_, refl}
 use mathlib.Core.Bool.{Bool, true, false, cond, not}
 use Prim.Native.Nat.{ℕ, _+_}

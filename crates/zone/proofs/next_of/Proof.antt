@@ -1,4 +1,4 @@
--- `zone::next_of` meets its contract. Assumes nothing.
+-- `zone::next_of` meets its contract.
 use native.Mathlib.Omega.{arith}
 use lib.Count.{trailing-le}
 use borrow.Author.Tests.{eq-eqb, ne-eqb}

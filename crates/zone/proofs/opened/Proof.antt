@@ -1,4 +1,4 @@
--- `zone::opened` meets its contract. Assumes nothing.
+-- `zone::opened` meets its contract.
 use borrow.Author.Needs.{needs}
 use Rattle.zone.proofs.opened.Statement.{statement}
 use Rattle.zone.proofs.opened.Tie as tie

@@ -1,4 +1,4 @@
--- `zone_c::answer` meets its contract. Assumes nothing.
+-- `zone_c::answer` meets its contract.
 use borrow.Author.Tests.{eq-eqb, ne-eqb}
 use Rattle.zone_c.specs.Plain.{answerPlain}
 use borrow.Author.Needs.{needs}

@@ -1,4 +1,4 @@
--- `zone_c::mark_of` meets its contract. Assumes nothing.
+-- `zone_c::mark_of` meets its contract.
 use borrow.Author.Tests.{eq-eqb, ne-eqb}
 use Rattle.zone_c.specs.Plain.{markOf}
 use Rattle.zone_c.proofs.mark_of.Statement.{statement}

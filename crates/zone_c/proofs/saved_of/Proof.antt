@@ -1,4 +1,4 @@
--- `zone_c::saved_of` meets its contract. Assumes nothing.
+-- `zone_c::saved_of` meets its contract.
 use borrow.Author.Needs.{needs}
 use Rattle.zone_c.proofs.saved_of.Statement.{statement}
 use Rattle.zone_c.proofs.saved_of.Tie as tie

@@ -1,4 +1,4 @@
--- `zone_c::zone_open` meets its contract. Assumes nothing.
+-- `zone_c::zone_open` meets its contract.
 use borrow.Author.Needs.{needs}
 use Rattle.zone_c.proofs.zone_open.Statement.{statement}
 use Rattle.zone_c.proofs.zone_open.Tie as tie

@@ -1,4 +1,4 @@
--- `zone_c::zone_send` meets its contract. Assumes nothing.
+-- `zone_c::zone_send` meets its contract.
 use borrow.Author.Tests.{lt-ltb, le-ltb}
 use Rattle.zone_c.specs.Plain.{sendPlain}
 use borrow.Author.Needs.{needs}

@@ -1,4 +1,4 @@
--- `zone_c::zone_start` meets its contract. Assumes nothing.
+-- `zone_c::zone_start` meets its contract.
 use borrow.Author.Tests.{lt-ltb, le-ltb}
 use Rattle.zone_c.specs.Plain.{startPlain}
 use borrow.Author.Needs.{needs}

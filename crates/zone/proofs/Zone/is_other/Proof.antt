@@ -1,4 +1,4 @@
--- `zone::Zone::is_other` meets its contract. Assumes nothing.
+-- `zone::Zone::is_other` meets its contract.
 use Rattle.zone.specs.Zone.{isOther}
 use borrow.Author.Needs.{needs}
 use Rattle.zone.proofs.Zone.is_other.Statement.{statement}

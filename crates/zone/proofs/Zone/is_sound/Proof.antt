@@ -1,4 +1,4 @@
--- `zone::Zone::is_sound` meets its contract. Assumes nothing.
+-- `zone::Zone::is_sound` meets its contract.
 use Rattle.zone.specs.Zone.{isSound}
 use borrow.Author.Needs.{needs}
 use Rattle.zone.proofs.Zone.is_sound.Statement.{statement}

@@ -1,4 +1,4 @@
--- `zone::Zone::open` meets its contract. Assumes nothing.
+-- `zone::Zone::open` meets its contract.
 use Rattle.rules.proofs.Tests.{no, yes}
 use Rattle.zone.proofs.Laws.{on-site}
 use Rattle.zone.specs.Zone.{openZone}

@@ -1,4 +1,4 @@
--- `zone::Zone::receive` meets its contract. Assumes nothing.
+-- `zone::Zone::receive` meets its contract.
 use mathlib.Core.Path.{_≡_}
 use mathlib.Core.Bool.{true}
 use Prim.Native.Nat.{_+_, _<_, _≤_}

@@ -1,4 +1,4 @@
--- `zone::Zone::request` meets its contract. Assumes nothing.
+-- `zone::Zone::request` meets its contract.
 use mathlib.Core.Path.{_≡_}
 use mathlib.Core.Bool.{true}
 use native.Mathlib.Omega.{arith}

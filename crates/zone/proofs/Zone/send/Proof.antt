@@ -1,4 +1,4 @@
--- `zone::Zone::send` meets its contract. Assumes nothing.
+-- `zone::Zone::send` meets its contract.
 use mathlib.Core.Path.{_≡_}
 use mathlib.Core.Bool.{true}
 use native.Mathlib.Omega.{arith}

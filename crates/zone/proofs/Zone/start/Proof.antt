@@ -1,4 +1,4 @@
--- `zone::Zone::start` meets its contract. Assumes nothing.
+-- `zone::Zone::start` meets its contract.
 use mathlib.Core.Path.{_≡_, sym, _∙_}
 use mathlib.Core.Bool.{true}
 use native.Mathlib.Omega.{arith}
