@@ -69,21 +69,21 @@ typedef struct {
 
 /* What opening answers. */
 typedef struct {
-    uint8_t refusal;
     cut_run run;
+    uint8_t refusal;
 } cut_answer;
 
 /* What a call on a run answers beside the arrays that it was lent. */
 typedef struct {
-    uint8_t refusal;
     cut_head head;
+    uint8_t refusal;
 } cut_turn;
 
 /* What reading answers. position: of the record that was refused with 18 or 19, counted from 0; else 0. */
 typedef struct {
-    uint8_t refusal;
-    size_t position;
     cut_run run;
+    size_t position;
+    uint8_t refusal;
 } cut_reading;
 
 /* What writing answers. written: the number of bytes written to the front of out; bytes behind them keep what they had. position: as above,

@@ -1,20 +1,20 @@
 -- On every struct that a call gave, a call for C is the engine's call: so a list of them is the same list of calls, to which demand 3
--- applies. Assumes nothing.
+-- applies.
 use mathlib.Core.Path.{_≡_, refl, sym, _∙_, ap}
 use mathlib.Core.Bool.{Bool, true, false}
 use mathlib.Core.List.{List, [], _∷_}
 use Prim.Native.Nat.{ℕ, _<_}
 use lib.Dec.{leb, eqb}
 use borrow.Author.Tests.{eqb-true}
-use lib.ListN.{length}
+use lib.ListN.{length, getD}
 use lib.Seq.{ext-getD}
 use Rattle.rules.specs.declared.Checkpoint.{Checkpoint}
 use Rattle.rules.specs.declared.Checkpoint.the-variants.{None, Mutable, Permanent}
 use Rattle.rules.specs.declared.Local.{Local}
-use Rattle.run.specs.Calls.{openCall}
 use Rattle.run.specs.Claims.{WholeRun}
-use Rattle.run.specs.Lists.{SiteCall, Send, Receive, Start, answer, after}
-use Rattle.run.specs.State.{noLocal, zoneAt}
+use Rattle.run.specs.Lists.{after}
+use Rattle.run.specs.State.{noLocal}
+use Rattle.run.specs.Calls.{answer}
 use Rattle.run.specs.declared.Run.{Run}
 use Rattle.run.proofs.BelowLaws.{all-of, length-below, list-at}
 use Rattle.run.proofs.Outcome.{kept}
@@ -23,28 +23,10 @@ use Rattle.journal.specs.Writing.{writeCall}
 use Rattle.recording.specs.Call.{recordCall}
 use Rattle.zone_c.specs.Plain.{kindOf}
 use Rattle.zone_c.proofs.Laws.{mark-back}
-use Rattle.site_c.specs.Plain.{
-  localOf,
-  plainLocal,
-  noPlain,
-  plainAt,
-  localsOf,
-  plainLocals,
-  areKinds,
-  runOf,
-  plainRun,
-  plainAnswer,
-  answerPlain,
-  openPlain,
-  sendPlain,
-  receivePlain,
-  startPlain,
-  callPlain,
-  afterPlain,
-  outputOf,
-  recordPlain,
-  writePlain,
-}
+use Rattle.site_c.specs.Plain.{localOf, plainLocal, noPlain, plainAt, localsOf, plainLocals, areKinds, runOf, plainRun, plainAnswer, answerPlain, openPlain, callPlain, afterPlain, outputOf, recordPlain, writePlain}
+use Rattle.run.specs.Opening.{openCall, termsAs, openingAs}
+use Rattle.run.specs.declared.SiteCall.{SiteCall}
+use Rattle.run.specs.declared.Opening.{Opening}
 
 local-back : (z : Local) → localOf (plainLocal z) ≡ z
 local-back z = rw (mark-back (z .checkpoint))
@@ -56,11 +38,11 @@ locals-back zones e =
     ext-getD noLocal _ zones (length-below 8 (λ i. localOf (plainAt (plainLocals zones) i)) ∙ sym e)
     (λ i h. at i (rw (length-below 8 (λ i. localOf (plainAt (plainLocals zones) i))) at h))
   where
-    at : (i : ℕ) → i < 8 → zoneAt (localsOf (plainLocals zones)) i ≡ zoneAt zones i
+    at : (i : ℕ) → i < 8 → getD (localsOf (plainLocals zones)) i noLocal ≡ getD zones i noLocal
     at i h =
         list-at 8 (λ i. localOf (plainAt (plainLocals zones) i)) noLocal i h
-        ∙ ap localOf (list-at 8 (λ i. plainLocal (zoneAt zones i)) noPlain i h)
-        ∙ local-back (zoneAt zones i)
+        ∙ ap localOf (list-at 8 (λ i. plainLocal (getD zones i noLocal)) noPlain i h)
+        ∙ local-back (getD zones i noLocal)
 
 kind-at : (c : Checkpoint) → leb (kindOf c) 2 ≡ true
 kind-at None = refl
@@ -72,10 +54,10 @@ unfolding areKinds plainLocals
 kinds zones = all-of 8 (λ i. leb (plainAt (plainLocals zones) i .mark) 2) at
   where
     at : (i : ℕ) → i < 8 → leb (plainAt (plainLocals zones) i .mark) 2 ≡ true
-    at i h = rw (list-at 8 (λ i. plainLocal (zoneAt zones i)) noPlain i h) (kind-at (zoneAt zones i .checkpoint))
+    at i h = rw (list-at 8 (λ i. plainLocal (getD zones i noLocal)) noPlain i h) (kind-at (getD zones i noLocal .checkpoint))
 
 pub run-back : (r : Run) → WholeRun r → runOf (plainRun r) ≡ r
-run-back r w = rw (locals-back (r .zones) (w .zones))
+run-back r w = rw (locals-back (r .head .zones) (w .zones))
 
 told : (c : SiteCall) (r : Run) → answerPlain (plainRun r) (answer c r) ≡ plainAnswer (answer c r)
 unfolding answerPlain
@@ -86,10 +68,8 @@ told c r = go (eqb (answer c r .refusal) 0) refl
     go false e = rw (e, kept c r e)
 
 pub call-plain : (c : SiteCall) (r : Run) → WholeRun r → callPlain c (plainRun r) ≡ plainAnswer (answer c r)
-unfolding sendPlain receivePlain startPlain
-call-plain (Send from to cars) r w = rw (kinds (r .zones), run-back r w) (told (Send from to cars) r)
-call-plain (Receive from to) r w = rw (kinds (r .zones), run-back r w) (told (Receive from to) r)
-call-plain (Start zone) r w = rw (kinds (r .zones), run-back r w) (told (Start zone) r)
+unfolding callPlain
+call-plain c r w = rw (kinds (r .head .zones), run-back r w) (told c r)
 
 pub calls-plain : (cs : List SiteCall) (r : Run) → WholeRun r → afterPlain cs (plainRun r) ≡ plainRun (after cs r)
 calls-plain [] r w = refl
@@ -97,13 +77,16 @@ calls-plain (c ∷ cs) r w = rw (call-plain c r w) (calls-plain cs (answer c r .
 
 -- A list of calls after an opening, and what is written after it.
 module _ (count : ℕ) (stocks : List ℕ) (cs : List SiteCall) where
-  pub opened-plain : afterPlain cs (openPlain count stocks .run) ≡ plainRun (after cs (openCall count stocks .run))
-  opened-plain = calls-plain cs (openCall count stocks .run) (open-whole count stocks)
+  abbrev o : Opening
+  o = openingAs (termsAs count) stocks
+
+  pub opened-plain : afterPlain cs (openPlain count stocks .run) ≡ plainRun (after cs (openCall o .run))
+  opened-plain = calls-plain cs (openCall o .run) (open-whole o)
 
 pub record-plain : (r : Run) (lent : List ℕ) → WholeRun r → recordPlain (plainRun r) lent ≡ outputOf (recordCall r lent)
 unfolding recordPlain
-record-plain r lent w = rw (kinds (r .zones), run-back r w)
+record-plain r lent w = rw (kinds (r .head .zones), run-back r w)
 
 pub write-plain : (r : Run) (lent : List ℕ) → WholeRun r → writePlain (plainRun r) lent ≡ outputOf (writeCall r lent)
 unfolding writePlain
-write-plain r lent w = rw (kinds (r .zones), run-back r w)
+write-plain r lent w = rw (kinds (r .head .zones), run-back r w)

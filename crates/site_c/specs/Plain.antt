@@ -7,9 +7,7 @@ use lib.ListN.{getD}
 use Rattle.rules.specs.Below.{allBelow, listBelow}
 use Rattle.rules.specs.Limits.{mostZones}
 use Rattle.rules.specs.declared.Local.{Local}
-use Rattle.run.specs.Calls.{openCall, sendCall, receiveCall, startCall}
-use Rattle.run.specs.Lists.{SiteCall, Send, Receive, Start}
-use Rattle.run.specs.State.{zoneAt}
+use Rattle.run.specs.State.{countOf, noLocal}
 use Rattle.run.specs.declared.Answer.{Answer}
 use Rattle.run.specs.declared.Run.{Run}
 use Rattle.journal.specs.Reading.{readCall}
@@ -17,8 +15,6 @@ use Rattle.journal.specs.Writing.{Output, writeCall}
 use Rattle.journal.specs.declared.Written.{Written}
 use Rattle.recording.specs.Call.{recordCall}
 use Rattle.site.specs.Lent.{runIn}
-use Rattle.site.specs.declared.Head.{Head}
-use Rattle.site.specs.declared.Turn.{Turn}
 use Rattle.zone_c.specs.Plain.{markOf, kindOf, savedOf}
 use Rattle.site_c.specs.declared.PlainAnswer.{PlainAnswer}
 use Rattle.site_c.specs.declared.PlainHead.{PlainHead}
@@ -27,6 +23,11 @@ use Rattle.site_c.specs.declared.PlainReading.{PlainReading}
 use Rattle.site_c.specs.declared.PlainRun.{PlainRun}
 use Rattle.site_c.specs.declared.PlainTurn.{PlainTurn}
 use Rattle.site_c.specs.declared.PlainWritten.{PlainWritten}
+use Rattle.run.specs.Calls.{answer}
+use Rattle.run.specs.Opening.{openCall, termsAs, openingAs}
+use Rattle.run.specs.declared.SiteCall.{SiteCall}
+use Rattle.recording.specs.declared.Recorded.{Recorded}
+use Rattle.run.specs.declared.Head.{Head}
 
 abbrev pub localOf : PlainLocal → Local
 localOf p = record { stock = p .stock; deps = p .deps; events = p .events; checkpoint = markOf (p .mark) (p .saved) }
@@ -51,17 +52,26 @@ unfoldable pub localsOf : List PlainLocal → List Local
 localsOf zones = listBelow mostZones (λ i. localOf (plainAt zones i))
 
 unfoldable pub plainLocals : List Local → List PlainLocal
-plainLocals zones = listBelow mostZones (λ i. plainLocal (zoneAt zones i))
+plainLocals zones = listBelow mostZones (λ i. plainLocal (getD zones i noLocal))
 
 -- Is every mark kind 0, 1 or 2, at all eight places?
 unfoldable pub areKinds : List PlainLocal → Bool
 areKinds zones = allBelow mostZones (λ i. leb (plainAt zones i .mark) 2)
 
 abbrev pub headOf : PlainHead → Head
-headOf p = record { count = p .count; records = p .records; zones = localsOf (p .zones); opening = p .opening }
+headOf p = record {
+  opening = openingAs (termsAs (p .count)) (p .opening);
+  records = p .records;
+  zones = localsOf (p .zones);
+}
 
 abbrev pub plainHead : Head → PlainHead
-plainHead h = record { count = h .count; records = h .records; zones = plainLocals (h .zones); opening = h .opening }
+plainHead h = record {
+  count = countOf h;
+  records = h .records;
+  zones = plainLocals (h .zones);
+  opening = h .opening .stocks;
+}
 
 -- The run of a head and the lent arrays.
 abbrev pub plainIn : PlainHead → List ℕ → List ℕ → List ℕ → PlainRun
@@ -71,12 +81,7 @@ abbrev pub runOf : PlainRun → Run
 runOf p = runIn (headOf (p .head)) (p .items) (p .lens) (p .journal)
 
 abbrev pub plainRun : Run → PlainRun
-plainRun r = record {
-  head = record { count = r .count; records = r .records; zones = plainLocals (r .zones); opening = r .opening };
-  items = r .channels .items;
-  lens = r .channels .lens;
-  journal = r .journal;
-}
+plainRun r = record { head = plainHead (r .head); items = r .channels .items; lens = r .channels .lens; journal = r .journal }
 
 -- A refused run is left as it came.
 abbrev pub refusedPlain : PlainRun → ℕ → PlainAnswer
@@ -89,9 +94,6 @@ answerPlain p a = cond (eqb (a .refusal) 0) (record { refusal = 0; run = plainRu
 abbrev pub plainAnswer : Answer → PlainAnswer
 plainAnswer a = record { refusal = a .refusal; run = plainRun (a .run) }
 
-unfoldable pub turnPlain : PlainHead → Turn → PlainTurn
-turnPlain p t = cond (eqb (t .refusal) 0) (record { refusal = 0; head = plainHead (t .head) }) (record { refusal = t .refusal; head = p })
-
 -- The answer on the whole run, of what a call answers and leaves in the lent arrays.
 abbrev pub answerIn : PlainTurn → List ℕ → List ℕ → List ℕ → PlainAnswer
 answerIn t items lens journal = record { refusal = t .refusal; run = plainIn (t .head) items lens journal }
@@ -102,22 +104,11 @@ ifKinds p a = cond (areKinds (p .head .zones)) a (refusedPlain p 1)
 
 -- A refused opening hands back a run too: 2 zones with stock 0.
 abbrev pub openPlain : ℕ → List ℕ → PlainAnswer
-openPlain count stocks = plainAnswer (openCall count stocks)
-
-unfoldable pub sendPlain : PlainRun → ℕ → ℕ → ℕ → PlainAnswer
-sendPlain p from to cars = ifKinds p (answerPlain p (sendCall (runOf p) from to cars))
-
-unfoldable pub receivePlain : PlainRun → ℕ → ℕ → PlainAnswer
-receivePlain p from to = ifKinds p (answerPlain p (receiveCall (runOf p) from to))
-
-unfoldable pub startPlain : PlainRun → ℕ → PlainAnswer
-startPlain p zone = ifKinds p (answerPlain p (startCall (runOf p) zone))
+openPlain count stocks = plainAnswer (openCall (openingAs (termsAs count) stocks))
 
 -- A call with any arguments, and the run after a list of them, refused ones included.
-abbrev pub callPlain : SiteCall → PlainRun → PlainAnswer
-callPlain (Send from to cars) p = sendPlain p from to cars
-callPlain (Receive from to) p = receivePlain p from to
-callPlain (Start zone) p = startPlain p zone
+unfoldable pub callPlain : SiteCall → PlainRun → PlainAnswer
+callPlain c p = ifKinds p (answerPlain p (answer c (runOf p)))
 
 abbrev pub afterPlain : List SiteCall → PlainRun → PlainRun
 afterPlain [] p = p
@@ -149,8 +140,6 @@ readPlain bytes =
     let t = readCall bytes in
     record { refusal = t .refusal; position = t .position; run = plainRun (t .run) }
 
--- A journal's recording: reading's refusal with its position, else what recording its run answers.
-unfoldable pub recordJournal : List ℕ → List ℕ → PlainOutput
-recordJournal bytes lent =
-    let t = readCall bytes in
-    cond (eqb (t .refusal) 0) (outputOf (recordCall (t .run) lent)) (refusedOutput lent (t .refusal) (t .position))
+-- A journal's recording.
+abbrev pub recordedPlain : Recorded → PlainWritten
+recordedPlain w = record { refusal = w .refusal; position = w .position; written = w .written }

@@ -1,4 +1,4 @@
--- `site_c::journal_read` meets its contract. Assumes nothing.
+-- `site_c::journal_read` meets its contract.
 use borrow.Author.Needs.{needs}
 use Rattle.site_c.proofs.journal_read.Statement.{statement}
 use Rattle.site_c.proofs.journal_read.Tie as tie

@@ -1,4 +1,4 @@
--- `site_c::journal_write` meets its contract. Assumes nothing.
+-- `site_c::journal_write` meets its contract.
 use Rattle.rules.proofs.Tests.{no, yes}
 use Rattle.site_c.specs.Plain.{writePlain}
 use borrow.Author.Needs.{needs}

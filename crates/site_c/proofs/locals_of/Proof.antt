@@ -1,4 +1,4 @@
--- `site_c::locals_of` meets its contract. Assumes nothing.
+-- `site_c::locals_of` meets its contract.
 use Rattle.site_c.specs.Plain.{localsOf}
 use borrow.Author.Needs.{needs}
 use Rattle.site_c.proofs.locals_of.Statement.{statement}

@@ -1,4 +1,4 @@
--- `site_c::plain_head` meets its contract. Assumes nothing.
+-- `site_c::plain_head` meets its contract.
 use borrow.Author.Needs.{needs}
 use Rattle.site_c.proofs.plain_head.Statement.{statement}
 use Rattle.site_c.proofs.plain_head.Tie as tie
@@ -7,7 +7,7 @@ plain-locals-requires : tie.Need-plain-locals-requires
 plain-locals-requires c κs = search needs
 
 returns : tie.Need-returns
-returns c = rw (c .before .plain-locals .ensures)
+returns c = rw (c .plain-locals .ensures)
 
 pub plain-head-spec : {M : Type 1} → statement M
 plain-head-spec = tie.close (tie.spec plain-locals-requires returns)

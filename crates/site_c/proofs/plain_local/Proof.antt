@@ -1,4 +1,4 @@
--- `site_c::plain_local` meets its contract. Assumes nothing.
+-- `site_c::plain_local` meets its contract.
 use borrow.Author.Needs.{needs}
 use Rattle.site_c.proofs.plain_local.Statement.{statement}
 use Rattle.site_c.proofs.plain_local.Tie as tie

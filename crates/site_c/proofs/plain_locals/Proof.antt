@@ -1,4 +1,4 @@
--- `site_c::plain_locals` meets its contract. Assumes nothing.
+-- `site_c::plain_locals` meets its contract.
 use Rattle.site_c.specs.Plain.{plainLocals}
 use borrow.Author.Needs.{needs}
 use Rattle.site_c.proofs.plain_locals.Statement.{statement}

@@ -1,4 +1,4 @@
--- `site_c::site_open` meets its contract. Assumes nothing.
+-- `site_c::site_open` meets its contract.
 use borrow.Author.Needs.{needs}
 use Rattle.site_c.proofs.site_open.Statement.{statement}
 use Rattle.site_c.proofs.site_open.Tie as tie

@@ -1,4 +1,4 @@
--- `site_c::site_record` meets its contract. Assumes nothing.
+-- `site_c::site_record` meets its contract.
 use Rattle.rules.proofs.Tests.{no, yes}
 use Rattle.site_c.specs.Plain.{recordPlain}
 use borrow.Author.Needs.{needs}
