@@ -73,8 +73,8 @@ pub struct PlainHead {
 #[repr(C)]
 #[derive(Clone, Copy, Debug, PartialEq, Eq)]
 pub struct PlainTurn {
-    pub refusal: u8,
     pub head: PlainHead,
+    pub refusal: u8,
 }
 
 impl PlainRun {
@@ -100,16 +100,16 @@ impl PlainRun {
 #[repr(C)]
 #[derive(Clone, Copy, Debug, PartialEq, Eq)]
 pub struct PlainAnswer {
-    pub refusal: u8,
     pub run: PlainRun,
+    pub refusal: u8,
 }
 
 #[repr(C)]
 #[derive(Clone, Copy, Debug, PartialEq, Eq)]
 pub struct PlainReading {
-    pub refusal: u8,
-    pub position: usize,
     pub run: PlainRun,
+    pub position: usize,
+    pub refusal: u8,
 }
 
 #[repr(C)]

@@ -13,18 +13,26 @@ use std::time::Instant;
 /// One call, made once; it gives the refusal's number.
 pub type Once = Box<dyn Fn() -> u32>;
 
-/// The time of the best of some batches, in nanoseconds a call.
-fn best(once: &Once, times: u32) -> u128 {
-    (0..5)
-        .map(|_| {
-            let start = Instant::now();
-            for _ in 0..times {
-                black_box(once());
-            }
-            start.elapsed().as_nanos() / u128::from(times.max(1))
-        })
-        .min()
-        .unwrap_or(0)
+/// How long a batch of calls should take at least, in nanoseconds: so short that other work on the
+/// machine falls into few batches.
+const BATCH: u128 = 20_000;
+
+fn batch(once: &Once, size: u32) -> u128 {
+    let start = Instant::now();
+    for _ in 0..size {
+        black_box(once());
+    }
+    start.elapsed().as_nanos()
+}
+
+/// The time of the best of so many batches, in nanoseconds a call.
+fn best(once: &Once, batches: u32) -> u128 {
+    let mut size = 1;
+    while batch(once, size) < BATCH {
+        size *= 2;
+    }
+    let times = (0..batches).map(|_| batch(once, size));
+    times.min().unwrap_or(0) / u128::from(size)
 }
 
 fn arguments() -> Option<(Once, u32, bool)> {
@@ -46,7 +54,8 @@ fn arguments() -> Option<(Once, u32, bool)> {
     Some((once, times.parse().ok()?, timed))
 }
 
-/// Makes the call so many times and prints its answer, or with `--time` its time.
+/// Makes the call so many times and prints its answer, or with `--time` its time, the best of so many
+/// batches.
 fn main() {
     let Some((once, times, timed)) = arguments() else {
         eprintln!("usage: calls proved|second CALL JOURNAL-FILE TIMES [--time]");

@@ -1,0 +1,219 @@
+//! Gives the built program journals and other bytes on its standard input and compares what it
+//! prints with the line of this implementation.
+
+use second::generate;
+use second::print;
+use second::random::{finish, Random};
+use second::site::{Run, MOST_RECORDS, PLACES};
+use std::fs::File;
+use std::io::Write;
+use std::process::{Child, ChildStdin, Command, Output, Stdio};
+use std::thread::sleep;
+use std::time::Duration;
+
+/// How the bytes come to the program.
+#[derive(Clone, Copy, Debug)]
+enum Way {
+    /// Written to a pipe at once.
+    Whole,
+    /// Written to a pipe byte by byte, so that a read gets a few of them.
+    Slow,
+    /// In a file.
+    File,
+}
+
+const PAUSE: Duration = Duration::from_micros(50);
+
+/// How many differences are shown.
+const SHOWN: u32 = 3;
+
+/// An input with its name.
+struct Input {
+    name: String,
+    bytes: Vec<u8>,
+}
+
+impl Input {
+    fn new(name: &str, bytes: Vec<u8>) -> Input {
+        let name = name.to_string();
+        Input { name, bytes }
+    }
+}
+
+fn main() {
+    let arguments: Vec<String> = std::env::args().collect();
+    let [_, program, stored, scratch] = &arguments[..] else {
+        eprintln!("usage: program PROGRAM JOURNALS-FILE SCRATCH-FILE");
+        std::process::exit(2);
+    };
+    let stored = split(&std::fs::read(stored).expect("the stored journals can be read"));
+    let made = made();
+    let mut inputs: Vec<(Way, &Input)> = stored.iter().map(|input| (Way::Whole, input)).collect();
+    for way in [Way::Whole, Way::Slow, Way::File] {
+        // What is longer than a pipe holds is not worth a pause a byte.
+        let short = |input: &&Input| !matches!(way, Way::Slow) || input.bytes.len() < 4_096;
+        inputs.extend(made.iter().filter(short).map(|input| (way, input)));
+    }
+    let mut wrong = 0;
+    for (way, input) in &inputs {
+        let expected = print::line(&input.bytes);
+        let output = run(program, *way, &input.bytes, scratch);
+        let printed = String::from_utf8_lossy(&output.stdout);
+        if !output.status.success() || !output.stderr.is_empty() || printed != expected {
+            wrong += 1;
+            if wrong <= SHOWN {
+                let (name, bytes) = (&input.name, input.bytes.len());
+                println!("program: {name}, {bytes} bytes, {way:?}: {}", output.status);
+                println!("  printed {:?}", cut(&printed));
+                println!("  expected {:?}", cut(&expected));
+            }
+        }
+    }
+    println!("program: {} inputs compared, {wrong} differ", inputs.len());
+    std::process::exit(i32::from(wrong != 0));
+}
+
+/// The first part of a line.
+fn cut(line: &str) -> String {
+    line.chars().take(80).collect()
+}
+
+/// The journals of a file that has each behind its length in 16 bits, high byte first.
+fn split(mut bytes: &[u8]) -> Vec<Input> {
+    let mut inputs = Vec::new();
+    while let [high, low, rest @ ..] = bytes {
+        let length = usize::from(u16::from_be_bytes([*high, *low]));
+        assert!(length <= rest.len(), "a stored journal is whole");
+        let (journal, rest) = rest.split_at(length);
+        let name = format!("stored journal {}", inputs.len() + 1);
+        inputs.push(Input::new(&name, journal.to_vec()));
+        bytes = rest;
+    }
+    assert!(bytes.is_empty(), "no byte is left over");
+    assert!(!inputs.is_empty(), "there are stored journals");
+    inputs
+}
+
+/// The inputs at the edges: nothing, the shortest, the longest journal, too long ones, and one whose
+/// printed line is long.
+fn made() -> Vec<Input> {
+    let (longest, widest) = (
+        generate::bytes_of(&longest()),
+        generate::bytes_of(&widest()),
+    );
+    assert_eq!(longest.len(), 2_018);
+    assert_eq!(print::line(&widest).len(), 3 * (2 + 4 * 8 + 2 * 881));
+    let followed = |length: usize| {
+        let mut bytes = longest.clone();
+        bytes.resize(length, 0);
+        bytes
+    };
+    vec![
+        Input::new("nothing", Vec::new()),
+        Input::new("one byte", vec![0x28]),
+        Input::new("a header alone", vec![0x28, 0x00]),
+        Input::new("case A", generate::CASE_A.to_vec()),
+        Input::new("the longest journal", longest.clone()),
+        Input::new("one byte less", followed(2_017)),
+        Input::new("one byte more", followed(2_019)),
+        Input::new("the longest and zeros", followed(100_000)),
+        Input::new("zeros", vec![0; 100_000]),
+        Input::new("many items", widest),
+    ]
+}
+
+/// Traffic round a ring of 8 zones up to a number of records.
+fn ring(run: &mut Run, records: usize) {
+    let mut from = 1;
+    while run.records.len() + 1 < records {
+        let to = from % 8 + 1;
+        assert_eq!(run.hand_over(from, to, 1), 0);
+        assert_eq!(run.receipt(from, to), 0);
+        from = to;
+    }
+    if run.records.len() < records {
+        assert_eq!(run.hand_over(1, 2, 1), 0);
+    }
+}
+
+/// A run of 8 zones and 1,000 accepted records with a complete recording.
+fn longest() -> Run {
+    let (_, mut run) = Run::open(8, &[1_000; 8]);
+    ring(&mut run, 500);
+    assert_eq!(run.start(1), 0);
+    finish(&mut Random::new(1), &mut run);
+    ring(&mut run, MOST_RECORDS);
+    run
+}
+
+/// A run of 8 zones and 1,000 accepted records whose recording has 881 items: zone 1 has heard all
+/// others and starts; these fill their lines before they take its requests, and zone 1 takes some
+/// items after its mark.
+fn widest() -> Run {
+    let (_, mut run) = Run::open(8, &[8_000; 8]);
+    for zone in 2..=8 {
+        assert_eq!(run.hand_over(zone, 1, 1), 0);
+        assert_eq!(run.receipt(zone, 1), 0);
+    }
+    assert_eq!(run.start(1), 0);
+    for from in 2..=8 {
+        for to in (1..=8).filter(|&to| to != from) {
+            for cars in 0..PLACES as u8 {
+                assert_eq!(run.hand_over(from, to, cars), 0);
+            }
+        }
+    }
+    for more in 0..97 {
+        let from = 2 + more % 7;
+        assert_eq!(run.receipt(from, 1), 0);
+        assert_eq!(run.hand_over(from, 1, 255), 0);
+    }
+    for to in 2..=8 {
+        assert_eq!(run.receipt(1, to), 0);
+    }
+    assert_eq!(run.records.len(), MOST_RECORDS);
+    run
+}
+
+fn started(program: &str, input: Stdio) -> Child {
+    Command::new(program)
+        .stdin(input)
+        .stdout(Stdio::piped())
+        .stderr(Stdio::piped())
+        .spawn()
+        .expect("the program can be started")
+}
+
+fn ended(child: Child) -> Output {
+    child.wait_with_output().expect("the program ends")
+}
+
+/// Runs the program on these bytes.
+fn run(program: &str, way: Way, bytes: &[u8], scratch: &str) -> Output {
+    if let Way::File = way {
+        std::fs::write(scratch, bytes).expect("the scratch file can be written");
+        let file = File::open(scratch).expect("the scratch file can be read");
+        return ended(started(program, file.into()));
+    }
+    let mut child = started(program, Stdio::piped());
+    let pipe = child.stdin.take().expect("the program has a pipe");
+    write(pipe, way, bytes);
+    ended(child)
+}
+
+/// Writes to the program and closes the pipe. The program may end without reading all: then what it
+/// printed tells.
+fn write(mut pipe: ChildStdin, way: Way, bytes: &[u8]) {
+    let part = match way {
+        Way::Slow => 1,
+        _ => bytes.len().max(1),
+    };
+    for bytes in bytes.chunks(part) {
+        if pipe.write_all(bytes).is_err() {
+            return;
+        }
+        if let Way::Slow = way {
+            sleep(PAUSE);
+        }
+    }
+}

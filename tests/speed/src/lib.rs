@@ -1,0 +1,28 @@
+//! A peer of the proved code, written for speed: the same calls by the rules of document 01, in
+//! place on lent values, with fixed arrays, no heap and no unsafe code. Every question is asked,
+//! question 1 of every call included; its fuller form is one replay.
+//!
+//! A call answers 0 or the number of the first question that says no; then nothing is changed. A set
+//! of zones is a byte in which zone k is the bit of weight 2 to the power k - 1.
+
+#![forbid(unsafe_code)]
+
+mod replay;
+pub mod site;
+pub mod zone;
+
+/// The set of all zones of a site of at most 8.
+#[inline]
+fn everybody(count: u8) -> u8 {
+    !(0xFF_u32 << count) as u8
+}
+
+/// The indices of a set's zones, from the lowest on.
+#[inline]
+fn members(mut set: u8) -> impl Iterator<Item = usize> {
+    std::iter::from_fn(move || {
+        let index = set.trailing_zeros() as usize;
+        set &= set.wrapping_sub(1);
+        (index < 8).then_some(index)
+    })
+}

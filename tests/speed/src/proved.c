@@ -1,0 +1,155 @@
+/* The proved code as a buyer calls it in C: by the header's inline calls, and by the exported functions where the header has none. What an
+ * answer holds is given by field, so that only this file knows the layout of the answers. */
+#include "site.h"
+
+uint8_t proved_open(cut_run *run, uint8_t count, const uint16_t *stocks, size_t n)
+{
+    return cut_open(run, count, stocks, n);
+}
+
+/* The opening itself, which hands back a run when it is refused too. */
+uint8_t proved_open_any(cut_run *run, uint8_t count, const uint16_t *stocks, size_t n)
+{
+    cut_answer a = site_open(count, stocks, n);
+    *run = a.run;
+    return a.refusal;
+}
+
+uint8_t proved_send(cut_run *run, uint8_t from, uint8_t to, uint8_t cars)
+{
+    return cut_send(run, from, to, cars);
+}
+
+uint8_t proved_receive(cut_run *run, uint8_t from, uint8_t to)
+{
+    return cut_receive(run, from, to);
+}
+
+uint8_t proved_start(cut_run *run, uint8_t zone)
+{
+    return cut_start(run, zone);
+}
+
+static uint8_t told(cut_written w, size_t *position, size_t *written)
+{
+    *position = w.position;
+    *written = w.written;
+    return w.refusal;
+}
+
+uint8_t proved_record(const cut_run *run, uint8_t *out, size_t size, size_t *position, size_t *written)
+{
+    return told(cut_record(run, out, size), position, written);
+}
+
+uint8_t proved_write(const cut_run *run, uint8_t *out, size_t size, size_t *position, size_t *written)
+{
+    return told(cut_write(run, out, size), position, written);
+}
+
+uint8_t proved_read_record(const uint8_t *bytes, size_t n, uint8_t *out, size_t size, size_t *position, size_t *written)
+{
+    return told(journal_record(bytes, n, out, size), position, written);
+}
+
+uint8_t proved_read(const uint8_t *bytes, size_t n, cut_run *run, size_t *position)
+{
+    cut_reading r = journal_read(bytes, n);
+    *run = r.run;
+    *position = r.position;
+    return r.refusal;
+}
+
+/* A reading that is used where it is: nothing is copied out. */
+uint8_t proved_read_here(const uint8_t *bytes, size_t n)
+{
+    cut_reading r = journal_read(bytes, n);
+    __asm__ volatile("" : : "r"(&r) : "memory");
+    return r.refusal;
+}
+
+uint8_t proved_zone_open(cut_zone *zone, uint8_t count, uint8_t number, uint16_t stock)
+{
+    cut_opening o = zone_open(count, number, stock);
+    *zone = o.zone;
+    return o.refusal;
+}
+
+/* What a step answers beside the zone: its marked bit and both sets. */
+typedef struct {
+    uint8_t flag, to, carried;
+} step_told;
+
+static uint8_t step(cut_zone *zone, step_told *told, cut_step s)
+{
+    *zone = s.zone;
+    *told = (step_told){s.flag, s.to, s.carried};
+    return s.refusal;
+}
+
+uint8_t proved_zone_send(cut_zone *zone, step_told *told, uint8_t to, uint8_t cars)
+{
+    return step(zone, told, zone_send(*zone, to, cars));
+}
+
+uint8_t proved_zone_receive(cut_zone *zone, step_told *told, uint8_t from, uint8_t cars, uint8_t flag)
+{
+    return step(zone, told, zone_receive(*zone, from, cars, flag));
+}
+
+uint8_t proved_zone_request(cut_zone *zone, step_told *told, uint8_t set)
+{
+    return step(zone, told, zone_request(*zone, set));
+}
+
+uint8_t proved_zone_start(cut_zone *zone, step_told *told)
+{
+    return step(zone, told, zone_start(*zone));
+}
+
+/* Calls that do nothing: what measuring takes itself. */
+uint8_t idle_run(cut_run *run, uint8_t first, uint8_t second, uint8_t third)
+{
+    (void)run, (void)first, (void)second, (void)third;
+    return 0;
+}
+
+uint8_t idle_bytes(const void *in, size_t n, uint8_t *out, size_t size, size_t *position, size_t *written)
+{
+    (void)in, (void)n, (void)out, (void)size, (void)position, (void)written;
+    return 0;
+}
+
+uint8_t idle_zone(cut_zone *zone, step_told *told, uint8_t first, uint8_t second, uint8_t third)
+{
+    (void)zone, (void)told, (void)first, (void)second, (void)third;
+    return 0;
+}
+
+/* The layout of a run and of a zone, by which the peer's own structs are held to these. */
+const size_t proved_layout[] = {
+    sizeof(cut_run),
+    offsetof(cut_run, head.count),
+    offsetof(cut_run, head.records),
+    offsetof(cut_run, head.zones),
+    offsetof(cut_run, head.opening),
+    offsetof(cut_run, items),
+    offsetof(cut_run, lens),
+    offsetof(cut_run, journal),
+    sizeof(cut_local),
+    offsetof(cut_local, stock),
+    offsetof(cut_local, events),
+    offsetof(cut_local, deps),
+    offsetof(cut_local, mark),
+    offsetof(cut_local, saved.stock),
+    offsetof(cut_local, saved.events),
+    sizeof(cut_zone),
+    offsetof(cut_zone, number),
+    offsetof(cut_zone, count),
+    offsetof(cut_zone, deps),
+    offsetof(cut_zone, mark),
+    offsetof(cut_zone, stock),
+    offsetof(cut_zone, events),
+    offsetof(cut_zone, saved.stock),
+    offsetof(cut_zone, saved.events),
+};

@@ -1,0 +1,255 @@
+//! The calls of the proved code, through src/proved.c and the static libraries.
+
+use speed::site::{Local, Read, Run, Written};
+use speed::zone::{Answer, Zone};
+use std::mem::{offset_of, size_of};
+
+mod raw {
+    use super::{Run, Told, Zone};
+
+    extern "C" {
+        pub static proved_layout: [usize; 24];
+        pub fn proved_open(run: *mut Run, count: u8, stocks: *const u16, n: usize) -> u8;
+        pub fn proved_open_any(run: *mut Run, count: u8, stocks: *const u16, n: usize) -> u8;
+        pub fn proved_send(run: *mut Run, from: u8, to: u8, cars: u8) -> u8;
+        pub fn proved_receive(run: *mut Run, from: u8, to: u8) -> u8;
+        pub fn proved_start(run: *mut Run, zone: u8) -> u8;
+        pub fn proved_record(
+            run: *const Run,
+            out: *mut u8,
+            size: usize,
+            position: *mut usize,
+            written: *mut usize,
+        ) -> u8;
+        pub fn proved_write(
+            run: *const Run,
+            out: *mut u8,
+            size: usize,
+            position: *mut usize,
+            written: *mut usize,
+        ) -> u8;
+        pub fn proved_read_record(
+            bytes: *const u8,
+            n: usize,
+            out: *mut u8,
+            size: usize,
+            position: *mut usize,
+            written: *mut usize,
+        ) -> u8;
+        pub fn proved_read(bytes: *const u8, n: usize, run: *mut Run, position: *mut usize) -> u8;
+        pub fn proved_read_here(bytes: *const u8, n: usize) -> u8;
+        pub fn proved_zone_open(zone: *mut Zone, count: u8, number: u8, stock: u16) -> u8;
+        pub fn proved_zone_send(zone: *mut Zone, told: *mut Told, to: u8, cars: u8) -> u8;
+        pub fn proved_zone_receive(
+            zone: *mut Zone,
+            told: *mut Told,
+            from: u8,
+            cars: u8,
+            flag: u8,
+        ) -> u8;
+        pub fn proved_zone_request(zone: *mut Zone, told: *mut Told, set: u8) -> u8;
+        pub fn proved_zone_start(zone: *mut Zone, told: *mut Told) -> u8;
+        pub fn idle_run(run: *mut Run, first: u8, second: u8, third: u8) -> u8;
+        pub fn idle_bytes(
+            bytes: *const u8,
+            n: usize,
+            out: *mut u8,
+            size: usize,
+            position: *mut usize,
+            written: *mut usize,
+        ) -> u8;
+        pub fn idle_zone(zone: *mut Zone, told: *mut Told, first: u8, second: u8, third: u8) -> u8;
+    }
+}
+
+/// What a step answers beside the zone and the refusal.
+#[repr(C)]
+#[derive(Default)]
+pub struct Told {
+    flag: u8,
+    to: u8,
+    carried: u8,
+}
+
+impl Told {
+    /// The whole answer.
+    pub fn with(self, refusal: u8) -> Answer {
+        Answer {
+            refusal,
+            flag: self.flag,
+            to: self.to,
+            carried: self.carried,
+        }
+    }
+}
+
+/// Says whether the peer's run and zone lie in memory as those of the headers.
+pub fn same_layout() -> bool {
+    let mine = [
+        size_of::<Run>(),
+        offset_of!(Run, count),
+        offset_of!(Run, records),
+        offset_of!(Run, zones),
+        offset_of!(Run, opening),
+        offset_of!(Run, items),
+        offset_of!(Run, lens),
+        offset_of!(Run, journal),
+        size_of::<Local>(),
+        offset_of!(Local, stock),
+        offset_of!(Local, events),
+        offset_of!(Local, deps),
+        offset_of!(Local, mark),
+        offset_of!(Local, saved.stock),
+        offset_of!(Local, saved.events),
+        size_of::<Zone>(),
+        offset_of!(Zone, number),
+        offset_of!(Zone, count),
+        offset_of!(Zone, deps),
+        offset_of!(Zone, mark),
+        offset_of!(Zone, stock),
+        offset_of!(Zone, events),
+        offset_of!(Zone, saved.stock),
+        offset_of!(Zone, saved.events),
+    ];
+    mine == unsafe { raw::proved_layout }
+}
+
+// Every value of every field may be passed, and each pointer is that of a Rust reference or slice, so
+// the calls are safe.
+
+pub fn open(run: &mut Run, count: u8, stocks: &[u16]) -> u8 {
+    unsafe { raw::proved_open(run, count, stocks.as_ptr(), stocks.len()) }
+}
+
+/// Opens a site; refused, the run is that of 2 zones with stock 0.
+pub fn open_any(run: &mut Run, count: u8, stocks: &[u16]) -> u8 {
+    unsafe { raw::proved_open_any(run, count, stocks.as_ptr(), stocks.len()) }
+}
+
+pub fn send(run: &mut Run, from: u8, to: u8, cars: u8) -> u8 {
+    unsafe { raw::proved_send(run, from, to, cars) }
+}
+
+pub fn receive(run: &mut Run, from: u8, to: u8) -> u8 {
+    unsafe { raw::proved_receive(run, from, to) }
+}
+
+pub fn start(run: &mut Run, zone: u8) -> u8 {
+    unsafe { raw::proved_start(run, zone) }
+}
+
+/// What a call that writes answers beside the refusal.
+#[derive(Default)]
+pub struct Numbers {
+    position: usize,
+    written: usize,
+}
+
+impl Numbers {
+    /// The whole answer.
+    pub fn with(self, refusal: u8) -> Written {
+        Written {
+            refusal,
+            position: self.position,
+            written: self.written,
+        }
+    }
+}
+
+pub fn record(run: &Run, out: &mut [u8], numbers: &mut Numbers) -> u8 {
+    let (bytes, size) = (out.as_mut_ptr(), out.len());
+    unsafe {
+        raw::proved_record(
+            run,
+            bytes,
+            size,
+            &mut numbers.position,
+            &mut numbers.written,
+        )
+    }
+}
+
+pub fn write(run: &Run, out: &mut [u8], numbers: &mut Numbers) -> u8 {
+    let (bytes, size) = (out.as_mut_ptr(), out.len());
+    unsafe {
+        raw::proved_write(
+            run,
+            bytes,
+            size,
+            &mut numbers.position,
+            &mut numbers.written,
+        )
+    }
+}
+
+pub fn read_record(journal: &[u8], out: &mut [u8], numbers: &mut Numbers) -> u8 {
+    let (bytes, size) = (out.as_mut_ptr(), out.len());
+    unsafe {
+        raw::proved_read_record(
+            journal.as_ptr(),
+            journal.len(),
+            bytes,
+            size,
+            &mut numbers.position,
+            &mut numbers.written,
+        )
+    }
+}
+
+pub fn read(run: &mut Run, bytes: &[u8]) -> Read {
+    let mut position = 0;
+    let refusal = unsafe { raw::proved_read(bytes.as_ptr(), bytes.len(), run, &mut position) };
+    Read { refusal, position }
+}
+
+/// Reads a journal into a struct of the caller's in C.
+pub fn read_here(bytes: &[u8]) -> u8 {
+    unsafe { raw::proved_read_here(bytes.as_ptr(), bytes.len()) }
+}
+
+pub fn zone_open(zone: &mut Zone, count: u8, number: u8, stock: u16) -> u8 {
+    unsafe { raw::proved_zone_open(zone, count, number, stock) }
+}
+
+pub fn zone_send(zone: &mut Zone, told: &mut Told, to: u8, cars: u8) -> u8 {
+    unsafe { raw::proved_zone_send(zone, told, to, cars) }
+}
+
+pub fn zone_receive(zone: &mut Zone, told: &mut Told, from: u8, cars: u8, flag: u8) -> u8 {
+    unsafe { raw::proved_zone_receive(zone, told, from, cars, flag) }
+}
+
+pub fn zone_request(zone: &mut Zone, told: &mut Told, set: u8) -> u8 {
+    unsafe { raw::proved_zone_request(zone, told, set) }
+}
+
+pub fn zone_start(zone: &mut Zone, told: &mut Told) -> u8 {
+    unsafe { raw::proved_zone_start(zone, told) }
+}
+
+/// The calls that do nothing.
+pub mod idle {
+    use super::{raw, Numbers, Run, Told, Zone};
+
+    pub fn run(run: &mut Run, first: u8, second: u8, third: u8) -> u8 {
+        unsafe { raw::idle_run(run, first, second, third) }
+    }
+
+    pub fn bytes(journal: &[u8], out: &mut [u8], numbers: &mut Numbers) -> u8 {
+        let (bytes, size) = (out.as_mut_ptr(), out.len());
+        unsafe {
+            raw::idle_bytes(
+                journal.as_ptr(),
+                journal.len(),
+                bytes,
+                size,
+                &mut numbers.position,
+                &mut numbers.written,
+            )
+        }
+    }
+
+    pub fn zone(zone: &mut Zone, told: &mut Told, first: u8, second: u8, third: u8) -> u8 {
+        unsafe { raw::idle_zone(zone, told, first, second, third) }
+    }
+}
