@@ -1,5 +1,5 @@
 -- The calls of a site, each as a function from the run to the answer: its questions in document 01's order, then what is accepted.
-use mathlib.Core.Bool.{Bool, true, false, not, _&&_}
+use mathlib.Core.Bool.{Bool, not, _&&_}
 use mathlib.Core.List.{List, [], _∷_}
 use Prim.Native.Nat.{ℕ, _+_}
 use lib.Dec.{leb, ltb, eqb}
@@ -27,11 +27,6 @@ abbrev pub actor : SiteCall → ℕ
 actor (Send from to cars) = index from
 actor (Receive from to) = index to
 actor (Start zone) = index zone
-
-abbrev pub isStart : SiteCall → Bool
-isStart (Send from to cars) = false
-isStart (Receive from to) = false
-isStart (Start zone) = true
 
 -- Question 5: "Are the named zones on the site, and two named zones different?"
 unfoldable pub isPair : ℕ → ℕ → ℕ → Bool

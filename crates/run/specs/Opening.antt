@@ -48,8 +48,12 @@ openedHead o = record {
 abbrev pub noChannels : Channels
 noChannels = channelsAs (replicate 1024 0) (replicate 64 0)
 
+-- The first run with a head: no item on a channel, and no record.
+abbrev pub firstRun : Head → Run
+firstRun h = runAs h noChannels (replicate mostRecords 0)
+
 unfoldable pub openedRun : Opening → Run
-openedRun o = runAs (openedHead o) noChannels (replicate mostRecords 0)
+openedRun o = firstRun (openedHead o)
 
 -- "Open: 2, 3, 4."
 abbrev pub openQuestions : Opening → List Question

@@ -2,25 +2,26 @@
 use mathlib.Core.Path.{_≡_, refl, sym, _∙_, ap, ap₂, subst}
 use mathlib.Core.Bool.{Bool, true, false, cond, not}
 use mathlib.Core.Logic.{_≢_, _⊎_, inl, inr}
-use mathlib.Core.List.{List}
+use mathlib.Core.List.{List, _∷_}
 use Prim.Native.Nat.{ℕ, _+_, _<_, _≤_}
 use native.Mathlib.Omega.{arith}
-use borrow.Author.Tests.{lt-ltb, le-ltb, le-leb, lt-leb, eq-eqb, ne-eqb, eqb-true, eqb-false}
+use borrow.Author.Tests.{ltb-true, lt-ltb, le-ltb, le-leb, lt-leb, eq-eqb, ne-eqb, eqb-true, eqb-false}
 use lib.Dec.{ltb, eqb}
 use lib.ListN.{set}
 use lib.Pow.{pow-mono}
 use lib.Seq.{set-getD}
-use Rattle.rules.specs.Questions.{Question, ask, index, Among}
+use Rattle.rules.specs.Limits.{mostRecords}
+use Rattle.rules.specs.Questions.{Question, question, ask, index, Among}
 use Rattle.rules.specs.Zone.{isMarked, sent}
 use Rattle.rules.specs.declared.Local.{Local}
-use Rattle.rules.proofs.AskLaws.{numbers, lacks, not-among, ask-both}
+use Rattle.rules.proofs.AskLaws.{AllYes, numbers, lacks, not-among, ask-cases, ask-both}
 use Rattle.channel.specs.Words.{itemOf, carsIn, setIn, messageWord}
 use Rattle.channel.specs.Channels.{channelsAs, isChannel, place, lenOf, pushed, popped, firstOf, firstFull, allFree, requestedAll}
 use Rattle.channel.specs.declared.Channels.{Channels}
 use Rattle.channel.proofs.View.{all-free-none}
 use Rattle.local.specs.Asked.{startedBy}
 use Rattle.local.specs.declared.Asked.{Asked}
-use Rattle.run.specs.Calls.{actor, isStart, isNamed, taken, ownQuestions, zoneAfter, channelsAfter, refused, granted, answer, takenFirst, recordOf}
+use Rattle.run.specs.Calls.{actor, isNamed, taken, ownQuestions, zoneAfter, channelsAfter, refused, granted, answer, takenFirst, recordOf}
 use Rattle.run.specs.State.{runAs, termsOf, partsSound, countOf, zoneAt, putBack, noLocal, hasStarted}
 use Rattle.run.specs.declared.Answer.{Answer}
 use Rattle.run.specs.declared.Head.{Head}
@@ -30,9 +31,8 @@ use Rattle.run.specs.declared.SiteCall.the-variants.{Send, Receive, Start}
 use Rattle.run.specs.declared.Terms.{Terms}
 use Rattle.run.proofs.Facts.{channel-at, place-lt, sound-high, sound-events, sound-first, sound-room}
 use Rattle.run.proofs.Outcome.{pair, named-wider}
-use Rattle.steps.specs.InnerEffect.{Effected, effectAs, unchanged, effect}
-use Rattle.steps.specs.InnerReady.{Stands, Ready, Fits, Finished, answerAs, refusedBy}
-use Rattle.steps.specs.declared.Acted.{Acted}
+use Rattle.steps.specs.InnerEffect.{Effected, effectAs, unchanged, ownEffect, effect}
+use Rattle.steps.specs.InnerReady.{Stands, Ready, Fits}
 use Rattle.steps.specs.declared.Effect.{Effect}
 
 -- What readiness gives.
@@ -81,20 +81,20 @@ ready-fits terms records (Start zone) z l r e room =
 -- The effect of a hand-over, of a receipt and of a start, question by question.
 module _ (from to cars : ℕ) (z : Local) (l : Channels) (started : Bool) where
   pub send-7 : (o : Effect) → o ≡ unchanged 7 z → z .stock < cars
-      → record { effect = o; channels = l } ≡ effect (Send from to cars) z l started
-  unfolding effect
+      → record { effect = o; channels = l } ≡ ownEffect (Send from to cars) z l started
+  unfolding ownEffect
   send-7 o g h = rw (g, lt-leb _ _ h)
 
   pub send-8 : (k : ℕ) (o : Effect) → k ≡ place (index from) (index to) → o ≡ unchanged 8 z → cars ≤ z .stock → 16 ≤ lenOf l k
-      → record { effect = o; channels = l } ≡ effect (Send from to cars) z l started
-  unfolding effect
+      → record { effect = o; channels = l } ≡ ownEffect (Send from to cars) z l started
+  unfolding ownEffect
   send-8 k o e g covers h = rw (g, le-leb _ _ covers, le-ltb _ _ (subst (λ (n : ℕ). 16 ≤ lenOf l n) e h))
 
   -- Accepted: the message, with the flag of the sender's checkpoint, is pushed at the channel's place.
   pub send-0 : (k word : ℕ) (flag : Bool) (zone : Local) (after : Channels) → k ≡ place (index from) (index to) → cars ≤ z .stock
       → lenOf l k < 16 → flag ≡ isMarked (z .checkpoint) → word ≡ messageWord flag cars → after ≡ pushed l k word → zone ≡ sent cars z
-      → record { effect = record { refusal = 0; zone = zone }; channels = after } ≡ effect (Send from to cars) z l started
-  unfolding effect
+      → record { effect = record { refusal = 0; zone = zone }; channels = after } ≡ ownEffect (Send from to cars) z l started
+  unfolding ownEffect
   send-0 k word flag zone after e covers h f g p q = rw (q, p, g, f, e, le-leb _ _ covers, lt-ltb _ _ (subst (λ (n : ℕ). lenOf l n < 16) e h))
 
 -- What the search for a full channel tells.
@@ -107,8 +107,8 @@ module _ (l : Channels) (from to full : ℕ) (e : full ≡ firstFull l from to) 
 
 module _ (from to : ℕ) (z : Local) (l : Channels) (started : Bool) (k : ℕ) (e : k ≡ place (index from) (index to)) where
   pub receive-9 : (o : Effect) → o ≡ unchanged 9 z → lenOf l k ≡ 0
-      → record { effect = o; channels = l } ≡ effect (Receive from to) z l started
-  unfolding effect
+      → record { effect = o; channels = l } ≡ ownEffect (Receive from to) z l started
+  unfolding ownEffect
   receive-9 o g h = rw (g, eq-eqb _ _ (subst (λ (n : ℕ). lenOf l n ≡ 0) e h))
 
   -- The item that stands first makes `got` of the zone.
@@ -128,36 +128,52 @@ module _ (from to : ℕ) (z : Local) (l : Channels) (started : Bool) (k : ℕ) (
     here = subst (λ (n : ℕ). lenOf l n ≢ 0) e holds
 
     pub receive-10 : (o : Effect) → o ≡ unchanged 10 z → full ≢ 0
-        → record { effect = o; channels = l } ≡ effect (Receive from to) z l started
-    unfolding effect
+        → record { effect = o; channels = l } ≡ ownEffect (Receive from to) z l started
+    unfolding ownEffect
     receive-10 o g h = rw (g, ne-eqb _ _ here, asked-full h)
 
     -- Accepted: the item leaves its channel, and the requests join theirs.
     pub receive-0 : (popping after : Channels) → full ≡ 0 → popping ≡ popped l k
         → after ≡ requestedAll popping (index to) (got .to) (got .carried)
-        → record { effect = record { refusal = 0; zone = got .local }; channels = after } ≡ effect (Receive from to) z l started
-    unfolding effect
+        → record { effect = record { refusal = 0; zone = got .local }; channels = after } ≡ ownEffect (Receive from to) z l started
+    unfolding ownEffect
     receive-0 popping after h p q = rw (q, p, takes, e, ne-eqb _ _ here, asked-free h)
 
 module _ (zone : ℕ) (z : Local) (l : Channels) (started : Bool) where
   pub start-11 : (o : Effect) → o ≡ unchanged 11 z → started ≡ true
-      → record { effect = o; channels = l } ≡ effect (Start zone) z l started
-  unfolding effect
+      → record { effect = o; channels = l } ≡ ownEffect (Start zone) z l started
+  unfolding ownEffect
   start-11 o g h = rw (g, h)
 
   module _ (first : started ≡ false) (got : Asked) (starts : got ≡ startedBy (index zone) z) (full : ℕ)
       (search : full ≡ firstFull l (index zone) (got .to)) where
-    pub start-10 : (o : Effect) → o ≡ unchanged 10 z → full ≢ 0 → record { effect = o; channels = l } ≡ effect (Start zone) z l started
-    unfolding effect
+    pub start-10 : (o : Effect) → o ≡ unchanged 10 z → full ≢ 0 → record { effect = o; channels = l } ≡ ownEffect (Start zone) z l started
+    unfolding ownEffect
     start-10 o g h =
         rw (g, first, subst (λ (g : Asked). allFree l (index zone) (g .to) ≡ false) starts (some-full l (index zone) (got .to) full search h))
 
     -- Accepted: the requests join their channels.
     pub start-0 : (after : Channels) → full ≡ 0 → after ≡ requestedAll l (index zone) (got .to) (got .carried)
-        → record { effect = record { refusal = 0; zone = got .local }; channels = after } ≡ effect (Start zone) z l started
-    unfolding effect
+        → record { effect = record { refusal = 0; zone = got .local }; channels = after } ≡ ownEffect (Start zone) z l started
+    unfolding ownEffect
     start-0 after h q =
         rw (q, starts, first, subst (λ (g : Asked). allFree l (index zone) (g .to) ≡ true) starts (none-full l (index zone) (got .to) full search h))
+
+-- Behind question 1, 5 and 6 are asked of every call alike.
+module _ (c : SiteCall) (terms : Terms) (records : ℕ) (z : Local) (l : Channels) (started : Bool) where
+  pub effect-5 : (o : Effect) → o ≡ unchanged 5 z → isNamed (terms .count) c ≡ false
+      → record { effect = o; channels = l } ≡ effect c terms records z l started
+  unfolding effect
+  effect-5 o g e = rw (g, e)
+
+  module _ (named : isNamed (terms .count) c ≡ true) where
+    pub effect-6 : (o : Effect) → o ≡ unchanged 6 z → 1000 ≤ records → record { effect = o; channels = l } ≡ effect c terms records z l started
+    unfolding effect
+    effect-6 o g h = rw (g, named, le-ltb _ _ h)
+
+    pub behind-6 : records < 1000 → ownEffect c z l started ≡ effect c terms records z l started
+    unfolding effect ownEffect
+    behind-6 h = rw (named, lt-ltb _ _ h)
 
 -- No question has the number 0.
 own-nonzero : (c : SiteCall) (z : Local) (l : Channels) (started : Bool) → lacks 0 (numbers (ownQuestions c z l started)) ≡ true
@@ -165,119 +181,89 @@ own-nonzero (Send from to cars) z l started = refl
 own-nonzero (Receive from to) z l started = refl
 own-nonzero (Start zone) z l started = refl
 
--- Only a start asks whether a recording has been started.
-same-effect : (c : SiteCall) (z : Local) (l : Channels) (s t : Bool) → (isStart c ≡ true → s ≡ t) → ownQuestions c z l s ≡ ownQuestions c z l t
-same-effect (Send from to cars) z l s t h = refl
-same-effect (Receive from to) z l s t h = refl
-same-effect (Start zone) z l s t h = ap (λ (b : Bool). ownQuestions (Start zone) z l b) (h refl)
-
--- The zone that acted unchanged leaves the head unchanged.
-kept : (h : Head) (at records : ℕ) (z : Local) → zoneAt h at ≡ z → h .records ≡ records → putBack h at z records ≡ h
-kept h at records z e n = rw (← e, ← n, set-getD (h .zones) at noLocal)
-
+-- The effect of a call on the parts of a run is the call's answer on the run.
 module _ (h : Head) (terms : Terms) (records : ℕ) (c : SiteCall) (z : Local) (l : Channels) (journal : List ℕ) (s : Stands h terms records (actor c) z l) where
   abbrev run : Run
   run = runAs h l journal
 
-  count-is : countOf h ≡ terms .count
-  count-is = ap (λ (t : Terms). t .count) (s .opened)
+  abbrev further : List Question
+  further = question 5 (isNamed (terms .count) c) ∷ question 6 (ltb records mostRecords) ∷ ownQuestions c z l (hasStarted h)
 
-  -- A refused call leaves the run as it was.
-  pub stays : (n : ℕ) (o : Acted) (items lens : List ℕ) → o ≡ refusedBy n records z → channelsAs items lens ≡ l → answer c run ≡ refused run n
-      → answerAs h (actor c) o items lens journal ≡ answer c run
-  stays n o items lens e m q = rw (e, m, kept h (actor c) records z (s .acting) (s .number)) (sym q)
-
-  pub call-5 : isNamed (terms .count) c ≡ false → answer c run ≡ refused run 5
+  -- Behind 1 these questions decide.
+  rest : answer c run ≡ ask further (refused run) (granted c run)
   unfolding answer
-  call-5 e = rw (s .sound, count-is, e)
+  rest = rw (← s .opened, ← s .number, ← s .acting, s .sound)
 
-  pub call-6 : isNamed (terms .count) c ≡ true → 1000 ≤ records → answer c run ≡ refused run 6
-  unfolding answer
-  call-6 e m = rw (s .sound, count-is, e, s .number, le-ltb _ _ m)
+  abbrev granting : Effected
+  granting = record { effect = record { refusal = 0; zone = zoneAfter c z l }; channels = channelsAfter c z l }
 
-  module _ (named : isNamed (terms .count) c ≡ true) (room : records < 1000) (started : Bool) (same : isStart c ≡ true → started ≡ hasStarted h) where
-    abbrev granting : Effected
-    granting = record { effect = record { refusal = 0; zone = zoneAfter c z l }; channels = channelsAfter c z l }
+  abbrev denied : ℕ → Effected
+  denied n = record { effect = unchanged n z; channels = l }
 
-    -- Behind 1, 5 and 6 the call's own questions decide.
-    rest : answer c run ≡ ask (ownQuestions c z l started) (refused run) (granted c run)
-    unfolding answer
-    rest =
-        let n : isNamed (countOf h) c ≡ true = ap (λ (n : ℕ). isNamed n c) count-is ∙ named in
-        let m : ltb (h .records) 1000 ≡ true = ap (λ (n : ℕ). ltb n 1000) (s .number) ∙ lt-ltb _ _ room in
-        let q : ownQuestions c (zoneAt h (actor c)) l (hasStarted h) ≡ ownQuestions c z l started =
-        ap (λ (z : Local). ownQuestions c z l (hasStarted h)) (s .acting) ∙ sym (same-effect c z l started (hasStarted h) same) in
-        rw (s .sound, n, m) (ap (λ (qs : List Question). ask qs (refused run) (granted c run)) q)
+  -- The effect and the answer are accepted together, or refused with the same number.
+  abbrev Together : Type 0
+  Together = ((effect c terms records z l (hasStarted h) ≡ granting) × (answer c run ≡ granted c run))
+      ⊎ ((n : ℕ) × (n ≢ 0) × (effect c terms records z l (hasStarted h) ≡ denied n) × (answer c run ≡ refused run n))
 
-    -- The effect and the answer are accepted together, or refused with the same number.
-    abbrev Together : Type 0
-    Together = ((effect c z l started ≡ granting) × (answer c run ≡ granted c run))
-        ⊎ ((n : ℕ) × (n ≢ 0) × (effect c z l started ≡ record { effect = unchanged n z; channels = l }) × (answer c run ≡ refused run n))
+  together : Together
+  unfolding effect
+  together = go (ask-both further denied granting (refused run) (granted c run))
+    where
+      go : ((ask further denied granting ≡ granting) × (ask further (refused run) (granted c run) ≡ granted c run))
+          ⊎ ((n : ℕ) × Among n (numbers further) × (ask further denied granting ≡ denied n) × (ask further (refused run) (granted c run) ≡ refused run n))
+          → Together
+      go (inl (p, q)) = inl (p, rest ∙ q)
+      go (inr (n, m, p, q)) = inr (n, not-among n 0 (numbers further) m (own-nonzero c z l (hasStarted h)), p, rest ∙ q)
 
-    together : Together
+  module _ (made : Effect) (items lens : List ℕ) (e : effectAs made items lens ≡ effect c terms records z l (hasStarted h)) where
+    pub effect-refused : made .refusal ≢ 0 → record { refusal = made .refusal; run = runAs h (channelsAs items lens) journal } ≡ answer c run
+    effect-refused d = go together
+      where
+        go : Together → record { refusal = made .refusal; run = runAs h (channelsAs items lens) journal } ≡ answer c run
+        go (inl (p, q)) = absurd (d (ap (λ (x : Effected). x .effect .refusal) (e ∙ p)))
+        go (inr (n, k, p, q)) = ap (λ (x : Effected). record { refusal = x .effect .refusal; run = runAs h (x .channels) journal }) (e ∙ p) ∙ sym q
+
+    -- An accepted call names its zones rightly, and there is room for its record.
+    pub effect-asked : made .refusal ≡ 0 → (isNamed (terms .count) c ≡ true) × (records < 1000)
     unfolding effect
-    together = go (ask-both (ownQuestions c z l started) (λ n. record { effect = unchanged n z; channels = l }) granting (refused run) (granted c run))
+    effect-asked d = go (ask-cases further denied granting)
       where
-        go : ((ask (ownQuestions c z l started) (λ n. record { effect = unchanged n z; channels = l }) granting ≡ granting)
-            × (ask (ownQuestions c z l started) (refused run) (granted c run) ≡ granted c run))
-            ⊎ ((n : ℕ) × Among n (numbers (ownQuestions c z l started))
-            × (ask (ownQuestions c z l started) (λ n. record { effect = unchanged n z; channels = l }) granting ≡ record { effect = unchanged n z; channels = l })
-            × (ask (ownQuestions c z l started) (refused run) (granted c run) ≡ refused run n))
-            → Together
-        go (inl (p, q)) = inl (p, rest ∙ q)
-        go (inr (n, m, p, q)) = inr (n, not-among n 0 (numbers (ownQuestions c z l started)) m (own-nonzero c z l started), p, rest ∙ q)
+        go : (AllYes further × (ask further denied granting ≡ granting)) ⊎ ((n : ℕ) × Among n (numbers further) × (ask further denied granting ≡ denied n))
+            → (isNamed (terms .count) c ≡ true) × (records < 1000)
+        go (inl (y, p)) = (y .0, ltb-true _ _ (y .1 .0))
+        go (inr (n, m, p)) =
+            absurd (not-among n 0 (numbers further) m (own-nonzero c z l (hasStarted h)) (sym (ap (λ (x : Effected). x .effect .refusal) (e ∙ p)) ∙ d))
 
-    pub call-refused : (n : ℕ) → effect c z l started .effect .refusal ≡ n → n ≢ 0
-        → (effect c z l started .channels ≡ l) × (answer c run ≡ refused run n)
-    call-refused n e d = go together
+    -- The head after an accepted call, and its run with the call's record.
+    abbrev after : Head
+    after = putBack h (actor c) (made .zone) (records + 1)
+
+    pub effect-accepted : made .refusal ≡ 0
+        → record { refusal = 0; run = runAs after (channelsAs items lens) (set journal records (recordOf c)) } ≡ answer c run
+    effect-accepted d = go together
       where
-        go : Together → (effect c z l started .channels ≡ l) × (answer c run ≡ refused run n)
-        go (inl (p, q)) = absurd (d (sym e ∙ ap (λ (x : Effected). x .effect .refusal) p))
-        go (inr (m, k, p, q)) = (
-          ap (λ (x : Effected). x .channels) p,
-          q ∙ ap (refused run) (sym (ap (λ (x : Effected). x .effect .refusal) p) ∙ e),
-        )
-
-    pub call-accepted : effect c z l started .effect .refusal ≡ 0
-        → (effect c z l started ≡ granting) × (answer c run ≡ granted c run)
-    call-accepted e = go together
-      where
-        go : Together → (effect c z l started ≡ granting) × (answer c run ≡ granted c run)
-        go (inl h) = h
-        go (inr (m, k, p, q)) = absurd (k (sym (ap (λ (x : Effected). x .effect .refusal) p) ∙ e))
-
-    -- A refused effect leaves the run as it was; an accepted one is put back with the call's record.
-    module _ (made : Effect) (items lens : List ℕ) (e : effectAs made items lens ≡ effect c z l started) where
-      pub call-finished : (o : Acted) (after : List ℕ) (word : ℕ) → word ≡ recordOf c → Finished made records z journal word o after
-          → answerAs h (actor c) o items lens after ≡ answer c run
-      call-finished o after word g f = go (eqb (made .refusal) 0) refl
-        where
-          go : (b : Bool) → eqb (made .refusal) 0 ≡ b → answerAs h (actor c) o items lens after ≡ answer c run
-          go true q =
-              let d = eqb-true (made .refusal) 0 q in
-              let (p, s) = f .granted d in
-              ap₂ (λ (o : Acted) (l : List ℕ). answerAs h (actor c) o items lens l) p s ∙ done d
-            where
-              done : made .refusal ≡ 0 → answerAs h (actor c) (record { refusal = 0; records = records + 1; zone = made .zone }) items lens (set journal records word) ≡ answer c run
-              done d =
-                  let (k, r) = call-accepted (sym (ap (λ (x : Effected). x .effect .refusal) e) ∙ d) in
-                  let p : effectAs made items lens ≡ granting = e ∙ k in
-                  ap (λ (x : Effected). answerAs h (actor c) (record { refusal = 0; records = records + 1; zone = x .effect .zone }) (x .channels .items) (x .channels .lens) (set journal records word)) p
-                  ∙ rw (g, ← s .acting, ← s .number) (sym r)
-          go false q =
-              let d = eqb-false (made .refusal) 0 q in
-              let (p, m) = f .denied d in
-              let (k, r) = call-refused (made .refusal) (sym (ap (λ (x : Effected). x .effect .refusal) e)) d in
-              ap (λ (l : List ℕ). answerAs h (actor c) o items lens l) m
-              ∙ stays (made .refusal) o items lens p (ap (λ (x : Effected). x .channels) e ∙ k) r
+        go : Together → record { refusal = 0; run = runAs after (channelsAs items lens) (set journal records (recordOf c)) } ≡ answer c run
+        go (inl (p, q)) =
+            ap (λ (x : Effected). record { refusal = 0; run = runAs (putBack h (actor c) (x .effect .zone) (records + 1)) (x .channels) (set journal records (recordOf c)) }) (e ∙ p)
+            ∙ rw (← s .acting, ← s .number) (sym q)
+        go (inr (n, k, p, q)) = absurd (k (sym (ap (λ (x : Effected). x .effect .refusal) (e ∙ p)) ∙ d))
 
 -- The parts of a head that go into a call on the zone that acts, which stands at index k.
 pub stood : (h : Head) (terms : Terms) (c : SiteCall) (z : Local) (l : Channels) (k : ℕ) → termsOf h ≡ terms → k ≡ actor c → z ≡ zoneAt h k
     → partsSound h l ≡ true → Stands h terms (h .records) (actor c) z l
 stood h terms c z l k t e q s = record { opened = t; number = refl; acting = ap (zoneAt h) (sym e) ∙ sym q; sound = s }
 
--- The answer on the run, once the zone that acted is put back at index k.
-pub put : (h after : Head) (c : SiteCall) (o : Acted) (k : ℕ) (items lens journal : List ℕ) (x : Answer) → k ≡ actor c
-    → after ≡ putBack h k (o .zone) (o .records) → answerAs h (actor c) o items lens journal ≡ x
-    → record { refusal = o .refusal; run = runAs after (channelsAs items lens) journal } ≡ x
-put h after c o k items lens journal x e q s = rw (q, e) s
+-- The answer on the run, once the zone that acted is put back at index k and the record is a word.
+pub put : (h after : Head) (c : SiteCall) (z : Local) (k word : ℕ) (items lens journal : List ℕ) (x : Answer) → k ≡ actor c → word ≡ recordOf c
+    → after ≡ putBack h k z (h .records + 1)
+    → record { refusal = 0; run = runAs (putBack h (actor c) z (h .records + 1)) (channelsAs items lens) (set journal (h .records) (recordOf c)) } ≡ x
+    → record { refusal = 0; run = runAs after (channelsAs items lens) (set journal (h .records) word) } ≡ x
+put h after c z k word items lens journal x e w q s = rw (q, e, w) s
+
+-- What holds of a call holds of the same call as an arm of a match has it.
+module _ (terms : Terms) (records : ℕ) (z : Local) (l : Channels) (c d : SiteCall) (e : c ≡ d) where
+  pub ready-as : (h : Head) → Stands h terms records (actor c) z l → Ready terms records (actor d) z l
+  ready-as h s = record { head = h; stands = subst (λ (d : SiteCall). Stands h terms records (actor d) z l) e s }
+
+  pub effect-as : (started : Bool) (x : Effected) → x ≡ effect d terms records z l started → x ≡ effect c terms records z l started
+  effect-as started x q = q ∙ ap (λ (d : SiteCall). effect d terms records z l started) (sym e)

@@ -1,13 +1,16 @@
--- The effect of a call on the zone that acts and on the channels: its own questions, then what is accepted.
+-- The effect of a call behind question 1 on the zone that acts and on the channels: the rest of its questions, then what is accepted.
 use mathlib.Core.Bool.{Bool}
-use mathlib.Core.List.{List}
+use mathlib.Core.List.{List, _∷_}
 use Prim.Native.Nat.{ℕ}
-use Rattle.rules.specs.Questions.{ask}
+use lib.Dec.{ltb}
+use Rattle.rules.specs.Limits.{mostRecords}
+use Rattle.rules.specs.Questions.{Question, question, ask}
 use Rattle.rules.specs.declared.Local.{Local}
 use Rattle.channel.specs.Channels.{channelsAs}
 use Rattle.channel.specs.declared.Channels.{Channels}
-use Rattle.run.specs.Calls.{ownQuestions, zoneAfter, channelsAfter}
+use Rattle.run.specs.Calls.{isNamed, ownQuestions, zoneAfter, channelsAfter}
 use Rattle.run.specs.declared.SiteCall.{SiteCall}
+use Rattle.run.specs.declared.Terms.{Terms}
 use Rattle.steps.specs.declared.Effect.{Effect}
 
 pub record Effected : Type 0 where
@@ -21,7 +24,16 @@ effectAs e items lens = record { effect = e; channels = channelsAs items lens }
 abbrev pub unchanged : ℕ → Local → Effect
 unchanged n z = record { refusal = n; zone = z }
 
-unfoldable pub effect : SiteCall → Local → Channels → Bool → Effected
-effect c z l started =
-    ask (ownQuestions c z l started) (λ n. record { effect = unchanged n z; channels = l })
+-- What a list of questions leaves of a call: refused with the first number, all stays.
+abbrev pub outcomeOf : List Question → SiteCall → Local → Channels → Effected
+outcomeOf qs c z l =
+    ask qs (λ n. record { effect = unchanged n z; channels = l })
     (record { effect = record { refusal = 0; zone = zoneAfter c z l }; channels = channelsAfter c z l })
+
+-- Behind 6, a call's own questions decide.
+unfoldable pub ownEffect : SiteCall → Local → Channels → Bool → Effected
+ownEffect c z l started = outcomeOf (ownQuestions c z l started) c z l
+
+unfoldable pub effect : SiteCall → Terms → ℕ → Local → Channels → Bool → Effected
+effect c terms records z l started =
+    outcomeOf (question 5 (isNamed (terms .count) c) ∷ question 6 (ltb records mostRecords) ∷ ownQuestions c z l started) c z l

@@ -1,24 +1,18 @@
--- A call over the parts of a run: of the zones only the one that acts is passed, and the channels and the journal are lent.
+-- A call over the parts of a run: of the zones only the one that acts is passed, and the channels are lent.
 use mathlib.Core.Path.{_≡_}
 use mathlib.Core.Bool.{true}
-use mathlib.Core.Logic.{_≢_}
-use mathlib.Core.List.{List}
-use lib.ListN.{set}
 use Prim.Native.Nat.{ℕ, _+_, _<_, _≤_}
 use Rattle.rules.specs.Questions.{index, isOn}
 use Rattle.rules.specs.declared.Local.{Local}
-use Rattle.channel.specs.Channels.{channelsAs, place, lenOf, firstOf}
+use Rattle.channel.specs.Channels.{place, lenOf, firstOf}
 use Rattle.channel.specs.Words.{itemOf, carsIn, setIn}
 use Rattle.channel.specs.declared.Channels.{Channels}
 use Rattle.run.specs.Calls.{isPair}
-use Rattle.run.specs.State.{runAs, termsOf, zoneAt, putBack, partsSound}
-use Rattle.run.specs.declared.Answer.{Answer}
+use Rattle.run.specs.State.{termsOf, zoneAt, partsSound}
 use Rattle.run.specs.declared.Head.{Head}
 use Rattle.run.specs.declared.SiteCall.{SiteCall}
 use Rattle.run.specs.declared.SiteCall.the-variants.{Send, Receive, Start}
 use Rattle.run.specs.declared.Terms.{Terms}
-use Rattle.steps.specs.declared.Acted.{Acted}
-use Rattle.steps.specs.declared.Effect.{Effect}
 
 -- The parts are those of a head of which question 1 was answered yes, with the zone z at index `at`.
 pub record Stands (h : Head) (terms : Terms) (records at : ℕ) (z : Local) (l : Channels) : Type 0 where
@@ -40,18 +34,3 @@ Fits (Receive from to) z l =
     → (z .stock + carsIn (itemOf (firstOf l (place (index from) (index to)))) ≤ 65535)
     × (setIn (itemOf (firstOf l (place (index from) (index to)))) < 256))
 Fits (Start zone) z l = isOn 8 zone ≡ true
-
--- The answer on the whole run, of what a call answers and leaves in the lent arrays.
-abbrev pub answerAs : Head → ℕ → Acted → List ℕ → List ℕ → List ℕ → Answer
-answerAs h at o items lens journal = record {
-  refusal = o .refusal;
-  run = runAs (putBack h at (o .zone) (o .records)) (channelsAs items lens) journal;
-}
-
-abbrev pub refusedBy : ℕ → ℕ → Local → Acted
-refusedBy n records z = record { refusal = n; records = records; zone = z }
-
--- What is left of a call behind its effect, where its record is a word.
-pub record Finished (made : Effect) (records : ℕ) (z : Local) (before : List ℕ) (word : ℕ) (o : Acted) (after : List ℕ) : Type 0 where
-  pub denied : made .refusal ≢ 0 → (o ≡ refusedBy (made .refusal) records z) × (after ≡ before)
-  pub granted : made .refusal ≡ 0 → (o ≡ record { refusal = 0; records = records + 1; zone = made .zone }) × (after ≡ set before records word)

@@ -1,0 +1,203 @@
+-- `steps::receive` meets its contract: 5, 6, 9, 10, then the item off its channel and the requests.
+use mathlib.Core.Path.{_≡_, _∙_, subst}
+use mathlib.Core.Bool.{Bool, true}
+use mathlib.Core.Logic.{_≢_}
+use Prim.Native.Nat.{ℕ, _+_, _<_, _≤_}
+use native.Mathlib.Omega.{arith}
+use Rattle.rules.proofs.Tests.{no, yes}
+use Rattle.channel.specs.Channels.{channelsAs, lenOf}
+use Rattle.run.specs.Calls.{isPair}
+use Rattle.run.specs.declared.SiteCall.{SiteCall}
+use Rattle.run.specs.declared.SiteCall.the-variants.{Receive}
+use Rattle.run.proofs.Outcome.{pair, pair-low}
+use Rattle.steps.specs.InnerReady.{Fits}
+use Rattle.steps.proofs.Laws.{ready-fits, effect-5, effect-6, behind-6, receive-9, receive-10, receive-0}
+use borrow.Author.Needs.{needs}
+use Rattle.steps.proofs.receive.Statement.{statement}
+use Rattle.steps.proofs.receive.Tie as tie
+
+-- Landmarks: 5 answered yes; 6; the channel's place found; 9 answered yes; the item looked at, then taken; the search made; 10 answered
+-- yes; the item off.
+abbrev start : tie.Else1 → tie.Start
+start c = c .before .before
+
+abbrev named : tie.Else2 → tie.Else1
+named c = c .before
+
+abbrev roomy : tie.After-place → tie.Else2
+roomy c = c .before
+
+abbrev placed : tie.Else3 → tie.After-place
+placed c = c .before .before
+
+abbrev held : tie.After-take → tie.Else3
+held c = c .before .before
+
+abbrev taken : tie.After-first-full → tie.After-take
+taken c = c .before .before
+
+abbrev searched : tie.Else4 → tie.After-first-full
+searched c = c .before
+
+abbrev free : tie.After-pop → tie.Else4
+free c = c .before .before .before
+
+abbrev off : tie.After-request-all → tie.After-pop
+off c = c .before .before .before
+
+-- The call, and what 5 and 6 leave: its zones are named, and there is room for what it takes.
+abbrev told : tie.Start → SiteCall
+told c = Receive (c .args .from) (c .args .to)
+
+is-named : (c : tie.Else1) → isPair (start c .args .terms .count) (start c .args .from) (start c .args .to) ≡ true
+is-named c = yes (c .before .is-pair .ensures) (c .if1 .left)
+
+fits : (c : tie.Else2) → let a = start (named c) .args in Fits (told (start (named c))) (a .z) (channelsAs (a .items .now) (a .lens .now))
+fits c = let n = named c in ready-fits _ _ (told (start n)) _ _ (start n .pre) (is-named n) (c .if2 .left)
+
+pos : (n : ℕ) → n ≢ 0 → 0 < n
+pos n h = omega arith
+
+is-pair-requires : tie.Need-is-pair-requires
+is-pair-requires c κs = search needs
+
+no-effect-requires : tie.Need-no-effect-requires
+no-effect-requires c κs = search needs
+
+returns : tie.Need-returns
+returns c = λ started.
+    let a = c .before .before .before in
+    effect-5 (told a) _ _ _ _ started _ (c .no-effect .ensures) (no (c .before .before .is-pair .ensures) (c .before .if1 .taken))
+
+no-effect-requires-2 : tie.Need-no-effect-requires-2
+no-effect-requires-2 c κs = search needs
+
+returns-2 : tie.Need-returns-2
+returns-2 c = λ started.
+    let n = c .before .before in
+    effect-6 (told (start n)) _ _ _ _ started (is-named n) _ (c .no-effect2 .ensures) (c .before .if2 .taken)
+
+sub-a : tie.Need-sub-a
+sub-a c = pair-low 8 _ _ (fits c .0) .0
+
+sub-b : tie.Need-sub-b
+sub-b c = pair-low 8 _ _ (fits c .0) .1
+
+cast-place : tie.Need-cast-place
+cast-place c = search needs
+
+cast-place-2 : tie.Need-cast-place-2
+cast-place-2 c = search needs
+
+place-requires : tie.Need-place-requires
+place-requires c κs = let p = pair 8 _ _ (fits c .0) in (p .from, p .to)
+
+element-copy-out-if3 : tie.Need-element-copy-out-if3
+element-copy-out-if3 c = search needs
+
+no-effect-requires-3 : tie.Need-no-effect-requires-3
+no-effect-requires-3 c κs = search needs
+
+returns-3 : tie.Need-returns-3
+returns-3 c = λ started.
+    let p = c .before .before .before in
+    let r = roomy p in
+    let n = named r in
+    receive-9 _ _ _ _ started _ (p .place .ensures .0) _ (c .no-effect3 .ensures) (c .before .if3 .taken)
+    ∙ behind-6 (told (start n)) _ _ _ _ started (is-named n) (r .if2 .left)
+
+mul-word : tie.Need-mul-word
+mul-word c = search needs
+
+mul-word-2 : tie.Need-mul-word-2
+mul-word-2 c = search needs
+
+element-copy-out-word : tie.Need-element-copy-out-word
+element-copy-out-word c = search needs
+
+take-requires : tie.Need-take-requires
+take-requires c κs =
+    let h = c .before in
+    let p = placed h in
+    let f = fits (roomy p) in
+    let a = start (named (roomy p)) .args in
+    let q = pair 8 _ _ (f .0) in
+    let e = p .place .ensures .0 in
+    let l = channelsAs (a .items .now) (a .lens .now) in
+    let room = f .2 (pos _ (subst (λ (n : ℕ). lenOf l n ≢ 0) e (h .if3 .left))) in
+    rw e (q .from, q .to, f .1, room .0, room .1)
+
+cast-first-full : tie.Need-cast-first-full
+cast-first-full c = search needs
+
+first-full-requires : tie.Need-first-full-requires
+first-full-requires c κs = pair 8 _ _ (fits (roomy (placed (held (c .before)))) .0) .to
+
+no-effect-requires-4 : tie.Need-no-effect-requires-4
+no-effect-requires-4 c κs = search needs
+
+returns-4 : tie.Need-returns-4
+returns-4 c = λ started.
+    let f = c .before .before in
+    let t = taken f in
+    let h = held t in
+    let p = placed h in
+    let r = roomy p in
+    let n = named r in
+    receive-10 _ _ _ _ started _ (p .place .ensures .0) (h .if3 .left) _ (t .take .ensures) _ (f .first-full .ensures _) _
+    (c .no-effect4 .ensures) (c .before .if4 .taken)
+    ∙ behind-6 (told (start n)) _ _ _ _ started (is-named n) (r .if2 .left)
+
+pop-requires : tie.Need-pop-requires
+pop-requires c κs = search needs
+
+cast-request-all : tie.Need-cast-request-all
+cast-request-all c = search needs
+
+request-all-requires : tie.Need-request-all-requires
+request-all-requires c κs = pair 8 _ _ (fits (roomy (placed (held (taken (searched (free (c .before .before))))))) .0) .to
+
+returns-5 : tie.Need-returns-5
+returns-5 c = λ started.
+    let d = c .before in
+    let o = off d in
+    let i = free o in
+    let f = searched i in
+    let t = taken f in
+    let h = held t in
+    let p = placed h in
+    let r = roomy p in
+    let n = named r in
+    receive-0 _ _ _ _ started _ (p .place .ensures .0) (h .if3 .left) _ (t .take .ensures) _ (f .first-full .ensures _) _ _
+    (i .if4 .left) (o .pop .ensures .1) (d .request-all .ensures)
+    ∙ behind-6 (told (start n)) _ _ _ _ started (is-named n) (r .if2 .left)
+
+pub receive-spec : {M : Type 1} → statement M
+receive-spec =
+    tie.close
+    (tie.spec
+    is-pair-requires
+    no-effect-requires
+    returns
+    no-effect-requires-2
+    returns-2
+    sub-a
+    sub-b
+    cast-place
+    cast-place-2
+    place-requires
+    element-copy-out-if3
+    no-effect-requires-3
+    returns-3
+    mul-word
+    mul-word-2
+    element-copy-out-word
+    take-requires
+    cast-first-full
+    first-full-requires
+    no-effect-requires-4
+    returns-4
+    pop-requires
+    cast-request-all
+    request-all-requires
+    returns-5)

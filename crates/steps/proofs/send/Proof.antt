@@ -1,0 +1,152 @@
+-- `steps::send` meets its contract: 5, 6, 7, 8, then the message on its channel.
+use mathlib.Core.Path.{_≡_, _∙_}
+use mathlib.Core.Bool.{Bool, true}
+use native.Mathlib.Omega.{arith}
+use Rattle.rules.proofs.Tests.{no, yes}
+use Rattle.channel.specs.Channels.{channelsAs}
+use Rattle.run.specs.Calls.{isPair}
+use Rattle.run.specs.declared.SiteCall.{SiteCall}
+use Rattle.run.specs.declared.SiteCall.the-variants.{Send}
+use Rattle.run.proofs.Outcome.{pair, pair-low}
+use Rattle.steps.specs.InnerReady.{Fits}
+use Rattle.steps.proofs.Laws.{ready-fits, effect-5, effect-6, behind-6, send-7, send-8, send-0}
+use borrow.Author.Needs.{needs}
+use Rattle.steps.proofs.send.Statement.{statement}
+use Rattle.steps.proofs.send.Tie as tie
+
+-- Landmarks: 5 answered yes; 6; 7; the channel's place found; 8 answered yes; the message's word made.
+abbrev start : tie.Else1 → tie.Start
+start c = c .before .before
+
+abbrev named : tie.Else2 → tie.Else1
+named c = c .before
+
+abbrev roomy : tie.Else3 → tie.Else2
+roomy c = c .before .before
+
+abbrev covered : tie.After-place → tie.Else3
+covered c = c .before
+
+abbrev placed : tie.After-if42 → tie.After-place
+placed c = c .before
+
+abbrev free : tie.After-is-marked → tie.Else4
+free c = c .before
+
+abbrev worded : tie.After-push → tie.After-message-word
+worded c = c .before .before .before
+
+-- The call, and what 5 and 6 leave: its zones are named, and there is room for what it takes.
+abbrev told : tie.Start → SiteCall
+told c = Send (c .args .from) (c .args .to) (c .args .cars)
+
+is-named : (c : tie.Else1) → isPair (start c .args .terms .count) (start c .args .from) (start c .args .to) ≡ true
+is-named c = yes (c .before .is-pair .ensures) (c .if1 .left)
+
+fits : (c : tie.Else2) → let a = start (named c) .args in Fits (told (start (named c))) (a .z) (channelsAs (a .items .now) (a .lens .now))
+fits c = let n = named c in ready-fits _ _ (told (start n)) _ _ (start n .pre) (is-named n) (c .if2 .left)
+
+is-pair-requires : tie.Need-is-pair-requires
+is-pair-requires c κs = search needs
+
+no-effect-requires : tie.Need-no-effect-requires
+no-effect-requires c κs = search needs
+
+returns : tie.Need-returns
+returns c = λ started.
+    let a = c .before .before .before in
+    effect-5 (told a) _ _ _ _ started _ (c .no-effect .ensures) (no (c .before .before .is-pair .ensures) (c .before .if1 .taken))
+
+no-effect-requires-2 : tie.Need-no-effect-requires-2
+no-effect-requires-2 c κs = search needs
+
+returns-2 : tie.Need-returns-2
+returns-2 c = λ started.
+    let n = c .before .before in
+    effect-6 (told (start n)) _ _ _ _ started (is-named n) _ (c .no-effect2 .ensures) (c .before .if2 .taken)
+
+no-effect-requires-3 : tie.Need-no-effect-requires-3
+no-effect-requires-3 c κs = search needs
+
+returns-3 : tie.Need-returns-3
+returns-3 c = λ started.
+    let r = c .before .before .before in
+    let n = named r in
+    send-7 _ _ _ _ _ started _ (c .no-effect3 .ensures) (c .before .if3 .taken) ∙ behind-6 (told (start n)) _ _ _ _ started (is-named n) (r .if2 .left)
+
+sub-place : tie.Need-sub-place
+sub-place c = pair-low 8 _ _ (fits (roomy c) .0) .0
+
+cast-place : tie.Need-cast-place
+cast-place c = search needs
+
+sub-place-2 : tie.Need-sub-place-2
+sub-place-2 c = pair-low 8 _ _ (fits (roomy c) .0) .1
+
+cast-place-2 : tie.Need-cast-place-2
+cast-place-2 c = search needs
+
+place-requires : tie.Need-place-requires
+place-requires c κs = let p = pair 8 _ _ (fits (roomy c) .0) in (p .from, p .to)
+
+element-copy-out-if4 : tie.Need-element-copy-out-if4
+element-copy-out-if4 c = search needs
+
+no-effect-requires-4 : tie.Need-no-effect-requires-4
+no-effect-requires-4 c κs = search needs
+
+returns-4 : tie.Need-returns-4
+returns-4 c = λ started.
+    let p = placed (c .before .before) in
+    let r = roomy (covered p) in
+    let n = named r in
+    send-8 _ _ _ _ _ started _ _ (p .place .ensures .0) (c .no-effect4 .ensures) (covered p .if3 .left) (c .before .if4 .taken)
+    ∙ behind-6 (told (start n)) _ _ _ _ started (is-named n) (r .if2 .left)
+
+is-marked-requires : tie.Need-is-marked-requires
+is-marked-requires c κs = search needs
+
+message-word-requires : tie.Need-message-word-requires
+message-word-requires c κs = search needs
+
+push-requires : tie.Need-push-requires
+push-requires c κs = search needs
+
+send-requires : tie.Need-send-requires
+send-requires c κs = let v = covered (placed (free (worded c .before) .before)) in (v .if3 .left, fits (roomy v) .1)
+
+returns-5 : tie.Need-returns-5
+returns-5 c = λ started.
+    let w = worded (c .before) in
+    let f = free (w .before) in
+    let p = placed (f .before) in
+    let r = roomy (covered p) in
+    let n = named r in
+    send-0 _ _ _ _ _ started _ _ _ _ _ (p .place .ensures .0) (covered p .if3 .left) (f .if4 .left) (w .before .is-marked .ensures)
+    (w .message-word .ensures) (c .before .push .ensures) (c .send .ensures)
+    ∙ behind-6 (told (start n)) _ _ _ _ started (is-named n) (r .if2 .left)
+
+pub send-spec : {M : Type 1} → statement M
+send-spec =
+    tie.close
+    (tie.spec
+    is-pair-requires
+    no-effect-requires
+    returns
+    no-effect-requires-2
+    returns-2
+    no-effect-requires-3
+    returns-3
+    sub-place
+    cast-place
+    sub-place-2
+    cast-place-2
+    place-requires
+    element-copy-out-if4
+    no-effect-requires-4
+    returns-4
+    is-marked-requires
+    message-word-requires
+    push-requires
+    send-requires
+    returns-5)
