@@ -1,4 +1,4 @@
--- Calls known by their contracts alone lead where the definitions lead.
+-- Calls known by what they answer alone lead where the definitions lead.
 use mathlib.Core.Path.{_≡_, refl, sym, ap, subst}
 use mathlib.Core.List.{List, _∷_}
 use lib.Dec.{eqb}
@@ -10,13 +10,8 @@ use Rattle.run.specs.Lists.{callOf, after, acceptedCalls}
 use Rattle.run.specs.declared.Run.{Run}
 use Rattle.run.specs.declared.Answer.{Answer}
 use Rattle.run.specs.declared.SiteCall.{SiteCall}
-use Rattle.run.specs.declared.SiteCall.the-variants.{Send, Receive, Start}
-use Rattle.demand.specs.Made.{Answered, Made, done, then}
-
-answered-is : (c : SiteCall) (r : Run) (a : Answer) → Answered c r a → a ≡ answer c r
-answered-is (Send from to cars) r a e = e
-answered-is (Receive from to) r a e = e
-answered-is (Start zone) r a e = e
+use Rattle.promises.specs.Answers.{Answers}
+use Rattle.demand.specs.Made.{Made, done, then}
 
 -- What a list of calls, made one after another, comes to.
 pub record Comes (r : Run) (cs : List SiteCall) (accepted : List Call) (r′ : Run) : Type 0 where
@@ -24,7 +19,7 @@ pub record Comes (r : Run) (cs : List SiteCall) (accepted : List Call) (r′ : R
   pub calls : accepted ≡ acceptedCalls cs r
   pub result : r′ ≡ after cs r
 
-comes-more : (r r′ : Run) (c : SiteCall) (cs : List SiteCall) (accepted : List Call) (a : Answer) → Typed c → a ≡ answer c r → Comes (a .run) cs accepted r′
+comes-more : (r r′ : Run) (c : SiteCall) (cs : List SiteCall) (accepted : List Call) (a : Answer) → Typed c → Answers c r a → Comes (a .run) cs accepted r′
     → Comes r (c ∷ cs) (cons-if (eqb (a .refusal) 0) (callOf c) accepted) r′
 comes-more r r′ c cs accepted a t e h =
     subst (λ (x : Answer). Comes (x .run) cs accepted r′ → Comes r (c ∷ cs) (cons-if (eqb (x .refusal) 0) (callOf c) accepted) r′) (sym e)
@@ -36,4 +31,4 @@ comes-more r r′ c cs accepted a t e h =
 
 pub made-comes : {r r′ : Run} {cs : List SiteCall} {accepted : List Call} → Made r cs accepted r′ → Comes r cs accepted r′
 made-comes done = record { typed = tt; calls = refl; result = refl }
-made-comes (then {r} {r′} {c} {cs} {accepted} a t e m) = comes-more r r′ c cs accepted a t (answered-is c r a e) (made-comes m)
+made-comes (then {r} {r′} {c} {cs} {accepted} a t e m) = comes-more r r′ c cs accepted a t e (made-comes m)

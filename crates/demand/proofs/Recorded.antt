@@ -53,7 +53,7 @@ calls-decoded (c ∷ cs) r t = go (isAccepted c r) refl (calls-decoded cs (answe
         ∙ ap (λ (l : List Call). callOf c ∷ l) h
     go false e h = h
 
--- How the recording call answers once question 1 is answered yes.
+-- Questions 12 and 13 are answered yes; the bytes that question 14 is about.
 abbrev Started : Run → Type 0
 Started r = hasStarted (r .head) ≡ true
 
@@ -63,7 +63,8 @@ Free r = noRequests (countOf (r .head)) (r .channels) ≡ true
 abbrev bytesOf : Run → List ℕ
 bytesOf r = recordingBytes (termsOf (r .head)) (snapshotOf r)
 
-record Answers (r : Run) (lent : List ℕ) (o : Output) : Type 0 where
+-- What each number means that the recording call answers, once question 1 is answered yes.
+record ByNumber (r : Run) (lent : List ℕ) (o : Output) : Type 0 where
   accepted : o .answer .refusal ≡ 0 → Started r × Free r × (take (o .answer .written) (o .bytes) ≡ bytesOf r)
   accepts : Started r → Free r → length (bytesOf r) ≤ length lent → o .answer .refusal ≡ 0
   refusals : Among (o .answer .refusal) (0 ∷ 12 ∷ 13 ∷ 14 ∷ [])
@@ -74,7 +75,7 @@ record Answers (r : Run) (lent : List ℕ) (o : Output) : Type 0 where
 -- The call's output by the answers to questions 12, 13 and 14.
 answered-by : (r : Run) (lent : List ℕ) (x y z : Bool) → hasStarted (r .head) ≡ x → noRequests (countOf (r .head)) (r .channels) ≡ y
     → leb (length (bytesOf r)) (length lent) ≡ z
-    → Answers r lent (cond x (cond y (cond z (writtenOutput lent (bytesOf r)) (refusedOutput lent 14)) (refusedOutput lent 13)) (refusedOutput lent 12))
+    → ByNumber r lent (cond x (cond y (cond z (writtenOutput lent (bytesOf r)) (refusedOutput lent 14)) (refusedOutput lent 13)) (refusedOutput lent 12))
 answered-by r lent false y z e f g = record {
   accepted = λ (q : _≡_ {A = ℕ} 12 0). absurd (omega arith);
   accepts = λ a b c. absurd (false≢true (sym e ∙ a));
@@ -108,9 +109,9 @@ answered-by r lent true true true e f g = record {
   fourteen = λ (q : _≡_ {A = ℕ} 0 14). absurd (omega arith);
 }
 
-record-answers : (r : Run) (lent : List ℕ) → isReplayed r ≡ true → Answers r lent (recordCall r lent)
+record-numbers : (r : Run) (lent : List ℕ) → isReplayed r ≡ true → ByNumber r lent (recordCall r lent)
 unfolding recordCall
-record-answers r lent e =
+record-numbers r lent e =
     rw e (answered-by r lent (hasStarted (r .head)) (noRequests (countOf (r .head)) (r .channels)) (leb (length (bytesOf r)) (length lent)) refl refl refl)
 
 -- No zone is permanent where none of the site is.
@@ -124,26 +125,26 @@ none-permanent r e z = go (ltb z (countOf (r .head))) refl
 
 -- Demand 3 of a run whose journal replays to it, in the run's own terms.
 module _ (r : Run) (w : WholeRun r) (e : isReplayed r ≡ true) (lent : List ℕ) where
-  answers : Answers r lent (recordCall r lent)
-  answers = record-answers r lent e
+  by-number : ByNumber r lent (recordCall r lent)
+  by-number = record-numbers r lent e
 
   replayed-demand : Demand (openedWith r) (callsIn (recordWords r)) r lent (recordCall r lent .answer) (recordCall r lent .bytes)
   replayed-demand = record {
-    only-complete = λ z. let a = answers .accepted z in complete-if r w e (a .0) (a .1);
-    if-complete = λ c n. let h = if-complete r w e c in answers .accepts (h .0) (h .1) n;
-    cut = λ z. let a = answers .accepted z in
+    only-complete = λ z. let a = by-number .accepted z in complete-if r w e (a .0) (a .1);
+    if-complete = λ c n. let h = if-complete r w e c in by-number .accepts (h .0) (h .1) n;
+    cut = λ z. let a = by-number .accepted z in
         subst (λ (bytes : List ℕ). Cut (openingOf (openedWith r)) (callsIn (recordWords r)) (shownIn bytes)) (append-nil (bytesOf r) ∙ sym (a .2))
         (recording-cuts r w e (a .0) (a .1) []);
     ends = ap present (sym (site-is r w e));
-    refusals = answers .refusals;
-    not-started = λ q z. ap (λ (s : Site). isPermanent (s .zone z .checkpoint)) (sym (site-is r w e)) ∙ none-permanent r (answers .twelve q) z;
-    not-complete = λ q c. false≢true (sym (answers .thirteen q) ∙ if-complete r w e c .1);
-    too-few = λ q. let a = answers .fourteen q in (complete-if r w e (a .0) (a .1), a .2);
+    refusals = by-number .refusals;
+    not-started = λ q z. ap (λ (s : Site). isPermanent (s .zone z .checkpoint)) (sym (site-is r w e)) ∙ none-permanent r (by-number .twelve q) z;
+    not-complete = λ q c. false≢true (sym (by-number .thirteen q) ∙ if-complete r w e c .1);
+    too-few = λ q. let a = by-number .fourteen q in (complete-if r w e (a .0) (a .1), a .2);
     enough = recording-most r w e;
   }
 
   replayed-shown : recordCall r lent .answer .refusal ≡ 0 → shownIn (take (recordCall r lent .answer .written) (recordCall r lent .bytes)) ≡ snapshotOf r
-  replayed-shown z = ap shownIn (answers .accepted z .2 ∙ sym (append-nil (bytesOf r))) ∙ recording-shows r w e []
+  replayed-shown z = ap shownIn (by-number .accepted z .2 ∙ sym (append-nil (bytesOf r))) ∙ recording-shows r w e []
 
 -- Demand 3 of a true run, in the terms of the list of calls.
 module _ (o : Opening) (opened : openCall o .refusal ≡ 0) (cs : List SiteCall) (typed : AllTyped cs) where

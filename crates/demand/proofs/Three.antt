@@ -1,9 +1,7 @@
--- Demand 3, whole, over the contracts of the functions themselves.
+-- Demand 3, whole, over the facts that the functions promise: the pages Site and Recording of crates/promises say that they keep them.
 use mathlib.Core.Path.{_≡_, sym, _∙_, ap, subst}
 use mathlib.Core.List.{List}
 use Prim.Native.Nat.{ℕ}
-use base.Fml.{Lft}
-use denote.Ref.{RefT}
 use Rattle.rules.specs.Site.{Call}
 use Rattle.run.specs.Lists.{after, acceptedCalls}
 use Rattle.run.specs.Opening.{openingAs, openCall}
@@ -14,8 +12,9 @@ use Rattle.run.specs.declared.SiteCall.{SiteCall}
 use Rattle.run.specs.declared.Terms.{Terms}
 use Rattle.journal.specs.declared.Written.{Written}
 use Rattle.recording.specs.Call.{recordCall}
+use Rattle.promises.specs.Answers.{OpenAnswers, RecordAnswers}
 use Rattle.demand.specs.Demand.{Demand}
-use Rattle.demand.specs.Made.{Opened, Made, Recorded}
+use Rattle.demand.specs.Made.{Made}
 use Rattle.demand.proofs.Calls.{Comes, made-comes}
 use Rattle.demand.proofs.Recorded.{true-demand}
 
@@ -35,9 +34,9 @@ at-definitions o a e z cs accepted r h lent bytes w f g =
     (true-demand o opened cs (h .typed) lent))))
 
 -- An accepted opening; a list of calls, refused ones included, each on the run that the one before it handed back; then a recording call.
-pub demand-three : (κ : Lft) (terms : Terms) (stocks : RefT (List ℕ)) (a : Answer) → Opened κ terms stocks a → a .refusal ≡ 0
+pub demand-three : (terms : Terms) (stocks : List ℕ) (a : Answer) → OpenAnswers terms stocks a → a .refusal ≡ 0
     → (cs : List SiteCall) (accepted : List Call) (r : Run) → Made (a .run) cs accepted r
-    → (κ′ : Lft) (lent bytes : RefT (List ℕ)) (w : Written) → Recorded κ′ r lent w bytes
-    → Demand (openingAs terms (stocks .now)) accepted r (lent .now) w (bytes .now)
-demand-three κ terms stocks a e z cs accepted r m κ′ lent bytes w f =
-    at-definitions (openingAs terms (stocks .now)) a e z cs accepted r (made-comes m) (lent .now) (bytes .now) w (f .0) (f .1)
+    → (lent bytes : List ℕ) (w : Written) → RecordAnswers r lent w bytes
+    → Demand (openingAs terms stocks) accepted r lent w bytes
+demand-three terms stocks a e z cs accepted r m lent bytes w f =
+    at-definitions (openingAs terms stocks) a e z cs accepted r (made-comes m) lent bytes w (f .0) (f .1)

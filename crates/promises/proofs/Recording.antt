@@ -1,16 +1,16 @@
 -- What the recording call, and the text of a recording, promise.
 use mathlib.Core.Path.{_≡_}
 use denote.Ref.{now}
-use Rattle.recording.specs.Call.{recordCall}
 use Rattle.recording.specs.Journal.{recordJournal}
 use Rattle.report.specs.Report.{reportText}
 use Rattle.text.specs.Text.{Prints}
 use Rattle.recorder.proofs as recorder
 use Rattle.report.proofs as report-part
+use Rattle.promises.specs.Answers.{RecordAnswers}
 use Rattle.promises.specs.Promise.{Keeps}
 
 pub «record» : Keeps recorder.«record».ended recorder.«record».Symbol.routine
-    (λ _ run out r. (r ≡ recordCall run (now (out .entry)) .answer) × (now (out .exit) ≡ recordCall run (now (out .entry)) .bytes))
+    (λ _ run out r. RecordAnswers run (now (out .entry)) r (now (out .exit)))
 «record» _ = recorder.«record».Met.met
 
 pub record-journal : Keeps recorder.record_journal.ended recorder.record_journal.Symbol.routine

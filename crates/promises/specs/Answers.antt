@@ -1,0 +1,25 @@
+-- What the site engine and the recording call answer, each a fact of values alone. The pages Site and Recording say that the functions keep
+-- these facts; demand 3 rests on them and on nothing else of the functions.
+use mathlib.Core.Path.{_≡_}
+use mathlib.Core.List.{List}
+use Prim.Native.Nat.{ℕ}
+use Rattle.run.specs.Calls.{answer}
+use Rattle.run.specs.Opening.{openingAs, openCall}
+use Rattle.run.specs.declared.Answer.{Answer}
+use Rattle.run.specs.declared.Run.{Run}
+use Rattle.run.specs.declared.SiteCall.{SiteCall}
+use Rattle.run.specs.declared.Terms.{Terms}
+use Rattle.journal.specs.declared.Written.{Written}
+use Rattle.recording.specs.Call.{recordCall}
+
+-- The opening with these terms and stocks answers a.
+abbrev pub OpenAnswers : Terms → List ℕ → Answer → Type 0
+OpenAnswers terms stocks a = a ≡ openCall (openingAs terms stocks)
+
+-- The call c, whichever it is, answers a on this run.
+abbrev pub Answers : SiteCall → Run → Answer → Type 0
+Answers c run a = a ≡ answer c run
+
+-- The recording call answers w on this run and leaves the bytes where these were lent.
+abbrev pub RecordAnswers : Run → (lent : List ℕ) → Written → (bytes : List ℕ) → Type 0
+RecordAnswers run lent w bytes = (w ≡ recordCall run lent .answer) × (bytes ≡ recordCall run lent .bytes)
