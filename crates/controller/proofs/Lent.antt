@@ -100,9 +100,9 @@ module _ (n : ℕ) (κs : Lfts n) where
 abbrev pub Rest : List Kind → Type 0
 Rest ks = Denots (rows 0 tt ks)
 
-abbrev turned : (κs : Lfts 1) (ks : List Kind) → Denots (rows 1 κs ks) → Rest ks
-turned κs [] a = tt
-turned κs (k ∷ ks) a = (a .0, turned κs ks (a .1))
+abbrev rest : (κs : Lfts 1) (ks : List Kind) → Denots (rows 1 κs ks) → Rest ks
+rest κs [] a = tt
+rest κs (k ∷ ks) a = (a .0, rest κs ks (a .1))
 
 -- nothing is had of them at exit
 abbrev stays : (ks : List Kind) → Stays (slots 1 ks) (all yes (slots 1 ks))
@@ -217,7 +217,7 @@ module _ {M : Type 1} {𝓤 : URA M} {H : Heap 𝓤} {A : Atoms 𝓤} {K : Type 
   alloc-all t (x ∷ ks) k = alloc1 t (λ b. alloc-all t ks (λ bs. move t (1 ∷ 2 ∷ 0 ∷ []) $ fjoin3 t $ k (b, bs)))
 
   pass-all : K → (κs : Lfts 1) (ks : List Kind) (bs : Blocks ks) (a : Denots (rows 1 κs ks)) → Low 1 κs ks a → {Γ : List (Item 𝓤)} (E : Env 𝓤 H) {g : Goal 𝓤 H}
-      → Seq K W (‵ (cells ks bs (turned κs ks a)) ∷ Γ) g → Seq K W (‵ (rooms ks bs) ∷ Γ) (passes (env 𝓤 H ks bs E) (flat (rows 1 κs ks) (low 1 κs ks a)) g)
+      → Seq K W (‵ (cells ks bs (rest κs ks a)) ∷ Γ) g → Seq K W (‵ (rooms ks bs) ∷ Γ) (passes (env 𝓤 H ks bs E) (flat (rows 1 κs ks) (low 1 κs ks a)) g)
   pass-all t κs [] bs a are E s = pass0 t $ s
   pass-all t κs (k ∷ ks) bs a are E s = fsplit3 t $ pass1 t (init t 0 refl (k .typed (a .0) (are .0))) $ move t (2 ∷ 0 ∷ 1 ∷ []) $ pass-all t κs ks (bs .1) (a .1) (are .1) E (move t (1 ∷ 2 ∷ 0 ∷ []) $ fjoin3 t $ s)
 
@@ -231,10 +231,10 @@ module _ {M : Type 1} {𝓤 : URA M} {H : Heap 𝓤} {A : Atoms 𝓤} {K : Type 
 
 module _ {M : Type 1} (𝓤 : URA M) (H : Heap 𝓤) (A : Atoms 𝓤) (W : Given 𝓤 H A) where
   -- what the step asks of them, and what the exit does
-  passed-on : (κs : Lfts 1) (ks : List Kind) (a : Denots (rows 1 κs ks)) → Low 1 κs ks a → ent 𝓤 (emp 𝓤) (sem 𝓤 H A (owns (rows 0 tt ks) (turned κs ks a) (low 0 tt ks (turned κs ks a))))
+  passed-on : (κs : Lfts 1) (ks : List Kind) (a : Denots (rows 1 κs ks)) → Low 1 κs ks a → ent 𝓤 (emp 𝓤) (sem 𝓤 H A (owns (rows 0 tt ks) (rest κs ks a) (low 0 tt ks (rest κs ks a))))
   passed-on κs [] a are = id⊢ 𝓤 (emp 𝓤)
   passed-on κs (k ∷ ks) a are =
-      qed W [] ∵ use0 W (‵ (owns (rows 0 tt ks) (turned κs ks (a .1)) (low 0 tt ks (turned κs ks (a .1))))) (passed-on κs ks (a .1) (are .1)) $
+      qed W [] ∵ use0 W (‵ (owns (rows 0 tt ks) (rest κs ks (a .1)) (low 0 tt ks (rest κs ks (a .1))))) (passed-on κs ks (a .1) (are .1)) $
       use0 W (‵ (k .own (a .0) (k .val (a .0) ∷ []))) (plain-makes 𝓤 H A W (k .X) (k .coded) (k .ty ∷ []) (k .own) (k .pure) (a .0) _ (are .0)) $ fjoin ! $ done !
 
   abbrev Kept : (κs : Lfts 1) (ks : List Kind) → Denots (rows 1 κs ks) → Fml
@@ -278,7 +278,7 @@ module _ (ks : List Kind) (does : Zone → Rest ks → Step) {M : Type 1} (𝓤 
   stores κs a = record {
     ghost = Unit {0};
     requires = λ _. emp 𝓤;
-    ensures = λ _ r e. fact 𝓤 ((r ≡ does (now (a .0)) (turned κs ks (a .1))) × (now (e .0) ≡ does (now (a .0)) (turned κs ks (a .1)) .zone));
+    ensures = λ _ r e. fact 𝓤 ((r ≡ does (now (a .0)) (rest κs ks (a .1))) × (now (e .0) ≡ does (now (a .0)) (rest κs ks (a .1)) .zone));
   }
 
   abbrev ByValue : Contract 𝓤
@@ -293,7 +293,7 @@ module _ (ks : List Kind) (does : Zone → Rest ks → Step) {M : Type 1} (𝓤 
     x = (record { ptr = (b, o); name = γ; now = h }, p)
 
     abbrev a : Rest ks
-    a = turned (κ, tt) ks p
+    a = rest (κ, tt) ks p
 
     abbrev at : List Val × Valss (rows 1 (κ, tt) ks)
     at = (vptr b o ∷ [], low 1 (κ, tt) ks p)
@@ -356,9 +356,13 @@ module _ (ks : List Kind) (does : Zone → Rest ks → Step) {M : Type 1} (𝓤 
       (walked 𝓤 H A (lent ks) (held ks) (stores ks does 𝓤 H A) (WpFn 𝓤 H (𝓣 .C) (𝓣 .Λ) (function ks g)) (λ κs. (ptr-vals, spells 1 κs ks)) (λ κs. (mut-tells (named 0) (κs .0) Z.the-row, tells 1 κs ks))
       (λ κs qs bounds a _ are. via 𝓤 _ (fst∗ 𝓤 _ (emp 𝓤)) (walk ks does 𝓤 H A W (κs .0) (qs .0) (a .0 .ptr .0) (a .0 .ptr .1) (a .0 .name) (a .0 .now) (a .1) (are .1) (𝓣 .C) (𝓣 .Λ) (fmOf 𝓤 H (W .laws) 𝓣) g known)))
 
+  -- the theorem of the step whose code is r: it answers what `does` says
+  abbrev pub Does : Routine → Type 1
+  Does r = Meets 𝓤 H (𝓖 .A) (by-value ks .signature) (𝓡 .run r) (closing 𝓤 H (𝓖 .A) (by-value ks) (steps ks does 𝓤 H (𝓖 .A)))
+
   -- what the proof of the call f cites: the theorem of the step g, at the key by which the code of f names it
   pub stored : (env : Routines) (f g : Name) (r : Routine) → env g ≡ r → Closed 𝓤 H (tables 𝓤 H 𝓜 𝓡 env .C) (tables 𝓤 H 𝓜 𝓡 env .Λ) f (function ks g)
-      → Meets 𝓤 H A (by-value ks .signature) (𝓡 .run r) (closing 𝓤 H A (by-value ks) (steps ks does 𝓤 H A))
+      → Does r
       → Meets 𝓤 H A (lent ks .signature) (tables 𝓤 H 𝓜 𝓡 env .C f) (closing 𝓤 H A (lent ks) (stores ks does 𝓤 H A))
   unfolding tablesOf
   stored env f g r calls unfolded met =
