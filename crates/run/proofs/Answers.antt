@@ -1,22 +1,22 @@
 -- The numbers that calls answer: each is 0 or of the call's list, and a sound run answers a hand-over by four numbers of it alone.
 use mathlib.Core.Path.{_≡_, refl, sym, _∙_, ap, subst}
 use mathlib.Core.Bool.{Bool, true, false, cond}
-use mathlib.Core.Logic.{_≢_, inl, inr}
+use mathlib.Core.Logic.{_≢_}
 use mathlib.Core.List.{List, [], _∷_}
 use Prim.Native.Nat.{ℕ}
 use Rattle.rules.specs.Questions.{Question, question, ask, refusal, index, Among}
 use Rattle.channel.specs.Channels.{place, lenOf}
-use Rattle.run.specs.State.{zoneAt, isSound, countOf}
-use Rattle.run.specs.Calls.{refused, answer, granted, questions}
+use Rattle.run.specs.State.{zoneAt, isSound, hasStarted, countOf}
+use Rattle.run.specs.Calls.{refused, answer, granted, questions, actorIn}
 use Rattle.run.specs.Claims.{sendQuestions, sendRefusal, answers}
 use Rattle.run.specs.declared.Run.{Run}
 use Rattle.run.specs.declared.Answer.{Answer}
-use Rattle.run.proofs.Outcome.{answer-is}
+use Rattle.run.proofs.Outcome.{answer-is, listed, unlisted}
 use Rattle.run.specs.declared.SiteCall.{SiteCall}
 use Rattle.run.specs.Opening.{openCall, openQuestions}
-use Rattle.run.specs.declared.SiteCall.the-variants.{Receive, Send, Start}
+use Rattle.run.specs.declared.SiteCall.the-variants.{Send}
 use Rattle.run.specs.declared.Opening.{Opening}
-use Rattle.rules.proofs.AskLaws.{lacks, not-among, refusal-among}
+use Rattle.rules.proofs.AskLaws.{not-among, refusal-among}
 
 ask-refusal : (qs : List Question) (r : Run) (x : Answer) → x .refusal ≡ 0 → ask qs (refused r) x .refusal ≡ refusal qs
 ask-refusal [] r x e = e
@@ -51,12 +51,9 @@ send-among count records stock len from to cars = refusal-among (sendQuestions c
 -- Of any run, sound or not: each call answers 0 or a number of its list.
 pub call-among : (c : SiteCall) (r : Run) → Among (answer c r .refusal) (answers c)
 call-among c r =
-    subst (λ (n : ℕ). Among n (answers c)) (sym (refusal-is c r)) (go c)
-  where
-    go : (c : SiteCall) → Among (refusal (questions c r)) (answers c)
-    go (Send from to cars) = refusal-among (questions (Send from to cars) r)
-    go (Receive from to) = refusal-among (questions (Receive from to) r)
-    go (Start zone) = refusal-among (questions (Start zone) r)
+    subst (λ (n : ℕ). Among n (answers c)) (sym (refusal-is c r))
+    (subst (λ (ns : List ℕ). Among (refusal (questions c r)) (0 ∷ 1 ∷ 5 ∷ 6 ∷ ns)) (listed c (actorIn c r) (r .channels) (hasStarted (r .head)))
+    (refusal-among (questions c r)))
 
 pub open-among : (o : Opening) → Among (openCall o .refusal) (0 ∷ 2 ∷ 3 ∷ 4 ∷ [])
 unfolding openCall
@@ -66,12 +63,7 @@ open-among o =
 
 -- No call answers 20.
 pub call-never-20 : (c : SiteCall) (r : Run) → answer c r .refusal ≢ 20
-call-never-20 c r = not-among (answer c r .refusal) 20 (answers c) (call-among c r) (go c)
-  where
-    go : (c : SiteCall) → lacks 20 (answers c) ≡ true
-    go (Send from to cars) = refl
-    go (Receive from to) = refl
-    go (Start zone) = refl
+call-never-20 c r = not-among (answer c r .refusal) 20 (answers c) (call-among c r) (unlisted c .1)
 
 pub open-never-20 : (o : Opening) → openCall o .refusal ≢ 20
 open-never-20 o = not-among (openCall o .refusal) 20 (0 ∷ 2 ∷ 3 ∷ 4 ∷ []) (open-among o) refl

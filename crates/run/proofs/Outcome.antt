@@ -1,6 +1,6 @@
 -- What an answer of a call says: a refusal hands back the run, and an acceptance means that every question was answered yes.
 use mathlib.Core.Path.{_≡_, refl, sym, _∙_, ap, subst}
-use mathlib.Core.Bool.{Bool, true, false, cond, _&&_, not, true≢false}
+use mathlib.Core.Bool.{Bool, true, false, _&&_, not, true≢false}
 use mathlib.Core.Logic.{_≢_, _⊎_, inl, inr}
 use mathlib.Core.List.{List, [], _∷_, tail}
 use Prim.Native.Nat.{ℕ, _<_, _≤_}
@@ -15,11 +15,13 @@ use Rattle.rules.proofs.Tests.{and-left, and-right}
 use Rattle.local.specs.Asked.{startedBy}
 use Rattle.local.specs.declared.Asked.{Asked}
 use Rattle.channel.specs.Channels.{place, lenOf, allFree}
+use Rattle.channel.specs.declared.Channels.{Channels}
+use Rattle.rules.specs.declared.Local.{Local}
 use Rattle.rules.specs.Below.{sum}
 use Rattle.run.specs.State.{zoneAt, isSound, hasStarted, countOf}
-use Rattle.run.specs.Calls.{refused, isPair, answer, granted, questions, takenFirst, isNamed, actor}
+use Rattle.run.specs.Calls.{refused, isPair, answer, granted, questions, takenFirst, isNamed, actor, actorIn, ownQuestions}
 use Rattle.run.specs.Lists.{callOf, isAccepted}
-use Rattle.run.specs.Claims.{answers}
+use Rattle.run.specs.Claims.{ownRefusals, answers}
 use Rattle.run.specs.declared.Run.{Run}
 use Rattle.run.specs.declared.Answer.{Answer}
 use Rattle.run.specs.declared.SiteCall.{SiteCall}
@@ -62,6 +64,7 @@ Asks (Start zone) r =
 -- A call answered 0, and every question yes; or it was refused with one of its numbers and handed back the run.
 pub record Passed (c : SiteCall) (r : Run) : Type 0 where
   pub said : isAccepted c r ≡ true
+  pub yes : AllYes (questions c r)
   pub sound : isSound r ≡ true
   pub room : r .head .records < mostRecords
   pub asks : Asks c r
@@ -129,15 +132,19 @@ asks (Send from to cars) r (s, (p, (h, (e, (f, u))))) = (pair (countOf (r .head)
 asks (Receive from to) r (s, (p, (h, (e, (f, u))))) = (pair (countOf (r .head)) from to p, positive _ e, f)
 asks (Start zone) r (s, (p, (h, (e, (f, u))))) = (zone-sited (countOf (r .head)) zone p .1, not-true _ e, f)
 
-pub listed : (c : SiteCall) (r : Run) → numbers (questions c r) ≡ tail (answers c)
-listed (Send from to cars) r = refl
-listed (Receive from to) r = refl
-listed (Start zone) r = refl
+-- A call's own questions have its numbers; 0 and 20 are none of them.
+pub listed : (c : SiteCall) (z : Local) (l : Channels) (started : Bool) → numbers (ownQuestions c z l started) ≡ ownRefusals c
+listed (Send from to cars) z l started = refl
+listed (Receive from to) z l started = refl
+listed (Start zone) z l started = refl
 
-nonzero : (c : SiteCall) → lacks 0 (tail (answers c)) ≡ true
-nonzero (Send from to cars) = refl
-nonzero (Receive from to) = refl
-nonzero (Start zone) = refl
+pub unlisted : (c : SiteCall) → (lacks 0 (ownRefusals c) ≡ true) × (lacks 20 (ownRefusals c) ≡ true)
+unlisted (Send from to cars) = (refl, refl)
+unlisted (Receive from to) = (refl, refl)
+unlisted (Start zone) = (refl, refl)
+
+pub own-nonzero : (c : SiteCall) (z : Local) (l : Channels) (started : Bool) → lacks 0 (numbers (ownQuestions c z l started)) ≡ true
+own-nonzero c z l started = ap (lacks 0) (listed c z l started) ∙ unlisted c .0
 
 pub outcome : (c : SiteCall) (r : Run) → Passed c r ⊎ Refused c r
 outcome c r = go (ask-cases (questions c r) (refused r) (granted c r))
@@ -149,6 +156,7 @@ outcome c r = go (ask-cases (questions c r) (refused r) (granted c r))
         let e = answer-is c r ∙ h .1 in
         inl (record {
           said = ap (λ (x : Answer). eqb (x .refusal) 0) e;
+          yes = h .0;
           sound = h .0 .0;
           room = ltb-true _ _ (h .0 .1 .1 .0);
           asks = asks c r (h .0);
@@ -156,9 +164,9 @@ outcome c r = go (ask-cases (questions c r) (refused r) (granted c r))
         })
     go (inr h) =
         let e = answer-is c r ∙ h .2 in
-        let m = subst (Among (h .0)) (listed c r) (h .1) in
+        let m = subst (λ (ns : List ℕ). Among (h .0) (1 ∷ 5 ∷ 6 ∷ ns)) (listed c (actorIn c r) (r .channels) (hasStarted (r .head))) (h .1) in
         inr (record {
-          said = ap (λ (x : Answer). eqb (x .refusal) 0) e ∙ ne-eqb (h .0) 0 (not-among (h .0) 0 (tail (answers c)) m (nonzero c));
+          said = ap (λ (x : Answer). eqb (x .refusal) 0) e ∙ ne-eqb (h .0) 0 (not-among (h .0) 0 (tail (answers c)) m (unlisted c .0));
           number = h .0;
           among = m;
           kept = ap (λ (x : Answer). x .run) e;

@@ -3,7 +3,6 @@
 use mathlib.Core.Path.{_≡_, refl, _∙_, ap, subst}
 use mathlib.Core.Bool.{Bool, true, false}
 use mathlib.Core.List.{List, [], _∷_}
-use Prim.Native.Nat.{ℕ}
 use Rattle.rules.specs.Change.{cons-if}
 use Rattle.rules.specs.Site.{Site, Call, openS}
 use Rattle.rules.specs.Cut.{Allowed, run}

@@ -1,7 +1,6 @@
 -- What the claims over calls and lists of calls speak of, beside the calls themselves.
 use mathlib.Core.Path.{_≡_}
 use mathlib.Core.List.{List, [], _∷_}
-use mathlib.Core.Logic.{_⊎_}
 use Prim.Native.Nat.{ℕ, _+_, _≤_, _<_}
 use lib.Dec.{leb, ltb}
 use lib.ListN.{length, take, getD}
@@ -51,10 +50,13 @@ abbrev pub sendRefusal : (count records stock len from to cars : ℕ) → ℕ
 sendRefusal count records stock len from to cars = refusal (sendQuestions count records stock len from to cars)
 
 -- The numbers that a call may answer: 0 and those of its list.
+abbrev pub ownRefusals : SiteCall → List ℕ
+ownRefusals (Send from to cars) = 7 ∷ 8 ∷ []
+ownRefusals (Receive from to) = 9 ∷ 10 ∷ []
+ownRefusals (Start zone) = 11 ∷ 10 ∷ []
+
 abbrev pub answers : SiteCall → List ℕ
-answers (Send from to cars) = 0 ∷ 1 ∷ 5 ∷ 6 ∷ 7 ∷ 8 ∷ []
-answers (Receive from to) = 0 ∷ 1 ∷ 5 ∷ 6 ∷ 9 ∷ 10 ∷ []
-answers (Start zone) = 0 ∷ 1 ∷ 5 ∷ 6 ∷ 11 ∷ 10 ∷ []
+answers c = 0 ∷ 1 ∷ 5 ∷ 6 ∷ ownRefusals c
 
 -- The record words of the accepted calls of a list, in order.
 abbrev pub acceptedRecords : List SiteCall → Run → List ℕ

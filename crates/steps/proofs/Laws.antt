@@ -1,20 +1,19 @@
 -- What the answers of a call on parts rest on: readiness gives bounds, and the effect of a call gives the call's answer.
-use mathlib.Core.Path.{_≡_, refl, sym, _∙_, ap, ap₂, subst}
-use mathlib.Core.Bool.{Bool, true, false, cond, not}
+use mathlib.Core.Path.{_≡_, refl, sym, _∙_, ap, subst}
+use mathlib.Core.Bool.{Bool, true, false, not}
 use mathlib.Core.Logic.{_≢_, _⊎_, inl, inr}
 use mathlib.Core.List.{List, _∷_}
 use Prim.Native.Nat.{ℕ, _+_, _<_, _≤_}
 use native.Mathlib.Omega.{arith}
-use borrow.Author.Tests.{ltb-true, lt-ltb, le-ltb, le-leb, lt-leb, eq-eqb, ne-eqb, eqb-true, eqb-false}
+use borrow.Author.Tests.{ltb-true, lt-ltb, le-ltb, le-leb, lt-leb, eq-eqb, ne-eqb}
 use lib.Dec.{ltb, eqb}
 use lib.ListN.{set}
 use lib.Pow.{pow-mono}
-use lib.Seq.{set-getD}
 use Rattle.rules.specs.Limits.{mostRecords}
 use Rattle.rules.specs.Questions.{Question, question, ask, index, Among}
 use Rattle.rules.specs.Zone.{isMarked, sent}
 use Rattle.rules.specs.declared.Local.{Local}
-use Rattle.rules.proofs.AskLaws.{AllYes, numbers, lacks, not-among, ask-cases, ask-both}
+use Rattle.rules.proofs.AskLaws.{AllYes, numbers, not-among, ask-cases, ask-both}
 use Rattle.channel.specs.Words.{itemOf, carsIn, setIn, messageWord}
 use Rattle.channel.specs.Channels.{channelsAs, isChannel, place, lenOf, pushed, popped, firstOf, firstFull, allFree, requestedAll}
 use Rattle.channel.specs.declared.Channels.{Channels}
@@ -22,7 +21,7 @@ use Rattle.channel.proofs.View.{all-free-none}
 use Rattle.local.specs.Asked.{startedBy}
 use Rattle.local.specs.declared.Asked.{Asked}
 use Rattle.run.specs.Calls.{actor, isNamed, taken, ownQuestions, zoneAfter, channelsAfter, refused, granted, answer, takenFirst, recordOf}
-use Rattle.run.specs.State.{runAs, termsOf, partsSound, countOf, zoneAt, putBack, noLocal, hasStarted}
+use Rattle.run.specs.State.{runAs, termsOf, partsSound, countOf, zoneAt, putBack, hasStarted}
 use Rattle.run.specs.declared.Answer.{Answer}
 use Rattle.run.specs.declared.Head.{Head}
 use Rattle.run.specs.declared.Run.{Run}
@@ -30,7 +29,7 @@ use Rattle.run.specs.declared.SiteCall.{SiteCall}
 use Rattle.run.specs.declared.SiteCall.the-variants.{Send, Receive, Start}
 use Rattle.run.specs.declared.Terms.{Terms}
 use Rattle.run.proofs.Facts.{channel-at, place-lt, sound-high, sound-events, sound-first, sound-room}
-use Rattle.run.proofs.Outcome.{pair, named-wider}
+use Rattle.run.proofs.Outcome.{pair, named-wider, own-nonzero}
 use Rattle.steps.specs.InnerEffect.{Effected, effectAs, unchanged, ownEffect, effect}
 use Rattle.steps.specs.InnerReady.{Stands, Ready, Fits}
 use Rattle.steps.specs.declared.Effect.{Effect}
@@ -174,12 +173,6 @@ module _ (c : SiteCall) (terms : Terms) (records : ℕ) (z : Local) (l : Channel
     pub behind-6 : records < 1000 → ownEffect c z l started ≡ effect c terms records z l started
     unfolding effect ownEffect
     behind-6 h = rw (named, lt-ltb _ _ h)
-
--- No question has the number 0.
-own-nonzero : (c : SiteCall) (z : Local) (l : Channels) (started : Bool) → lacks 0 (numbers (ownQuestions c z l started)) ≡ true
-own-nonzero (Send from to cars) z l started = refl
-own-nonzero (Receive from to) z l started = refl
-own-nonzero (Start zone) z l started = refl
 
 -- The effect of a call on the parts of a run is the call's answer on the run.
 module _ (h : Head) (terms : Terms) (records : ℕ) (c : SiteCall) (z : Local) (l : Channels) (journal : List ℕ) (s : Stands h terms records (actor c) z l) where

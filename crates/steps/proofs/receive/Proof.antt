@@ -1,8 +1,8 @@
 -- `steps::receive` meets its contract: 5, 6, 9, 10, then the item off its channel and the requests.
 use mathlib.Core.Path.{_≡_, _∙_, subst}
-use mathlib.Core.Bool.{Bool, true}
+use mathlib.Core.Bool.{true}
 use mathlib.Core.Logic.{_≢_}
-use Prim.Native.Nat.{ℕ, _+_, _<_, _≤_}
+use Prim.Native.Nat.{ℕ, _<_}
 use native.Mathlib.Omega.{arith}
 use Rattle.rules.proofs.Tests.{no, yes}
 use Rattle.channel.specs.Channels.{channelsAs, lenOf}

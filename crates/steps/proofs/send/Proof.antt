@@ -1,7 +1,6 @@
 -- `steps::send` meets its contract: 5, 6, 7, 8, then the message on its channel.
 use mathlib.Core.Path.{_≡_, _∙_}
-use mathlib.Core.Bool.{Bool, true}
-use native.Mathlib.Omega.{arith}
+use mathlib.Core.Bool.{true}
 use Rattle.rules.proofs.Tests.{no, yes}
 use Rattle.channel.specs.Channels.{channelsAs}
 use Rattle.run.specs.Calls.{isPair}
