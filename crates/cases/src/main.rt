@@ -5,6 +5,7 @@ ghost use mathlib.Core.Path.{_≡_};
 ghost use lib.ListN.{length};
 use libc::STDIN_FILENO;
 use libc::STDOUT_FILENO;
+use report::TEXT_BYTES;
 
 fn joined(high: u8, low: u8) -> usize {
     high as usize * 256 + low as usize
@@ -39,7 +40,7 @@ fn one() -> bool {
 
 // The line of one journal.
 fn print(journal: &[u8]) {
-    let mut out = [0u8; 6102];
+    let mut out = [0u8; TEXT_BYTES];
     let m = report::report(journal, &mut out);
     io::write_all(STDOUT_FILENO, &out[..m]);
 }

@@ -13,12 +13,19 @@ use Rattle.rules.specs.Site.{Item}
 use Rattle.channel.specs.Words.{itemOf, requestWord}
 use Rattle.channel.specs.declared.Channels.{Channels}
 
+-- A place for each ordered pair of zones, and the words of all.
+abbrev pub mostChannels : ℕ
+mostChannels = mostZones * mostZones
+
+abbrev pub mostWords : ℕ
+mostWords = mostChannels * places
+
 abbrev pub channelsAs : List ℕ → List ℕ → Channels
 channelsAs items lens = record { items = items; lens = lens }
 
 -- The lists have the lengths of the arrays.
 abbrev pub Whole : Channels → Type 0
-Whole l = (length (l .items) ≡ 1024) × (length (l .lens) ≡ 64)
+Whole l = (length (l .items) ≡ mostWords) × (length (l .lens) ≡ mostChannels)
 
 abbrev pub place : ℕ → ℕ → ℕ
 place i j = i * mostZones + j
@@ -44,7 +51,7 @@ itemsOn l k = map itemOf (wordsOn l k)
 
 -- The places behind a channel's last item hold 0, so that equal contents are equal values.
 abbrev pub Clean : Channels → Type 0
-Clean l = (k p : ℕ) → k < 64 → p < places → lenOf l k ≤ p → getD (l .items) (k * places + p) 0 ≡ 0
+Clean l = (k p : ℕ) → k < mostChannels → p < places → lenOf l k ≤ p → getD (l .items) (k * places + p) 0 ≡ 0
 
 -- Does no channel from the zone at an index hold an item? Asked of the lengths.
 unfoldable pub allEmpty : List ℕ → ℕ → Bool

@@ -5,14 +5,21 @@ use Prim.Native.Nat.{ℕ, _+_, _-_, _%_}
 use lib.Dec.{leb, ltb}
 use Rattle.rules.specs.Site.{Item, message, request}
 
+-- What the flag adds to the cars, and what a request has beside its set.
+abbrev pub flagWeight : ℕ
+flagWeight = 256
+
+abbrev pub requestWeight : ℕ
+requestWeight = 512
+
 unfoldable pub itemOf : ℕ → Item
-itemOf word = cond (ltb word 512) (message (word % 256) (leb 256 word)) (request (word - 512))
+itemOf word = cond (ltb word requestWeight) (message (word % flagWeight) (leb flagWeight word)) (request (word - requestWeight))
 
 unfoldable pub messageWord : Bool → ℕ → ℕ
-messageWord flag cars = cond flag 256 0 + cars
+messageWord flag cars = cond flag flagWeight 0 + cars
 
 abbrev pub requestWord : ℕ → ℕ
-requestWord set = 512 + set
+requestWord set = requestWeight + set
 
 -- The cars of an item, and the set that it names; a request has no cars, and a message names nobody.
 abbrev pub carsIn : Item → ℕ

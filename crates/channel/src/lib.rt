@@ -1,10 +1,12 @@
 // The channels ("lines") of a site: 64 of 16 places, each first in first out. Items are words; the places behind a channel's last item
-// hold 0, so that equal contents are equal values. Callers name a channel by its place, which they know to be below 64.
+// hold 0, so that equal contents are equal values. Callers name a channel by its place, which they know to be below `CHANNELS`.
 ghost use mathlib.Core.Path.{_≡_};
 ghost use mathlib.Core.List.{List};
 ghost use Prim.Native.Nat.{ℕ, _<_, min};
 ghost use lib.ListN.{getD};
+ghost use Rattle.rules.specs.Limits.{mostZones, places};
 ghost use Rattle.channel.specs.Channels.{
+  mostChannels,
   channelsAs,
   isChannel,
   allEmpty,
@@ -14,36 +16,57 @@ ghost use Rattle.channel.specs.Channels.{
   firstFull,
   requestedAll,
 };
+use rules::MOST_ITEMS;
+use rules::PLACES;
+use rules::ZONES;
+
+// `mostChannels`: a place for each ordered pair of zones.
+pub const CHANNELS: usize = ZONES * ZONES;
+
+// `mostWords`: the words of all channels.
+pub const WORDS: usize = CHANNELS * PLACES;
+
+// The last place of a channel.
+const LAST: usize = PLACES - 1;
+
+// `flagWeight`: what the flag adds to the cars in an item's word.
+pub const FLAG_WEIGHT: u16 = 256;
+
+// `requestWeight`: what a request's word has beside its set.
+pub const REQUEST_WEIGHT: u16 = 512;
+
+// The first word whose set is more than a byte.
+pub const REQUESTS_END: u16 = REQUEST_WEIGHT + 256;
 
 pub struct Channels {
-    pub items: [u16; 1024],
-    pub lens: [u8; 64],
+    pub items: [u16; WORDS],
+    pub lens: [u8; CHANNELS],
 }
 
 // The place of the channel from one zone to another, both by index. A site has at most 8 zones, so the indices are below 8.
 pub fn place(from: usize, to: usize) -> usize
-    requires { ⌜ (from < 8) × (to < 8) ⌝ }
-    ensures { λ k. ⌜ (k ≡ Rattle.channel.specs.Channels.place from to) × (k < 64) ⌝ }
+    requires { ⌜ (from < mostZones) × (to < mostZones) ⌝ }
+    ensures { λ k. ⌜ (k ≡ Rattle.channel.specs.Channels.place from to) × (k < mostChannels) ⌝ }
 {
-    from * 8 + to
+    from * ZONES + to
 }
 
 // Whether a site of `count` zones has a channel at place k.
 pub fn is_channel(count: u8, k: usize) -> bool
     ensures { λ r. ⌜ r ≡ isChannel count k ⌝ }
 {
-    let a = k / 8 < count as usize;
-    let b = k % 8 < count as usize;
-    let c = k / 8 != k % 8;
+    let a = k / ZONES < count as usize;
+    let b = k % ZONES < count as usize;
+    let c = k / ZONES != k % ZONES;
     a & b & c
 }
 
 // Whether no channel from a zone holds an item: one test of eight bytes spares eight of a channel. The index is of a zone of a site.
-pub fn all_empty(lens: &[u8; 64], from: usize) -> bool
-    requires { ⌜ from < 8 ⌝ }
+pub fn all_empty(lens: &[u8; CHANNELS], from: usize) -> bool
+    requires { ⌜ from < mostZones ⌝ }
     ensures { λ r. ⌜ r ≡ allEmpty (now (lens .entry)) from ⌝ }
 {
-    let at = from * 8;
+    let at = from * ZONES;
     (lens[at] == 0)
         & (lens[at + 1] == 0)
         & (lens[at + 2] == 0)
@@ -56,41 +79,41 @@ pub fn all_empty(lens: &[u8; 64], from: usize) -> bool
 
 // The number of words that a channel of this length has: no more than its places.
 pub fn looked_at(len: u8) -> usize
-    ensures { λ n. ⌜ n ≡ min len 16 ⌝ }
+    ensures { λ n. ⌜ n ≡ min len places ⌝ }
 {
-    if 16 < len {
-        return 16;
+    if MOST_ITEMS < len {
+        return PLACES;
     }
     len as usize
 }
 
 // One item more at the end of a channel; a full channel stays as it is. The place is one that `place` gives.
-pub fn push(items: &mut [u16; 1024], lens: &mut [u8; 64], k: usize, word: u16)
-    requires { ⌜ k < 64 ⌝ }
+pub fn push(items: &mut [u16; WORDS], lens: &mut [u8; CHANNELS], k: usize, word: u16)
+    requires { ⌜ k < mostChannels ⌝ }
     ensures { λ r. ⌜
         channelsAs (now (items .exit)) (now (lens .exit)) ≡ pushed (channelsAs (now (items .entry)) (now (lens .entry))) k word
         ⌝ }
 {
     let n = lens[k];
-    if 16 <= n {
+    if MOST_ITEMS <= n {
         return;
     }
-    items[k * 16 + n as usize] = word;
+    items[k * PLACES + n as usize] = word;
     lens[k] = n + 1;
 }
 
 // The first item leaves a channel that holds one: question 9 has been asked.
-pub fn pop(items: &mut [u16; 1024], lens: &mut [u8; 64], k: usize) -> u16
-    requires { ⌜ (k < 64) × (0 < getD (now lens) k 0) ⌝ }
+pub fn pop(items: &mut [u16; WORDS], lens: &mut [u8; CHANNELS], k: usize) -> u16
+    requires { ⌜ (k < mostChannels) × (0 < getD (now lens) k 0) ⌝ }
     ensures { λ r. ⌜
         (r ≡ firstOf (channelsAs (now (items .entry)) (now (lens .entry))) k)
         × (channelsAs (now (items .exit)) (now (lens .exit)) ≡ popped (channelsAs (now (items .entry)) (now (lens .entry))) k)
         ⌝ }
 {
-    let at = k * 16;
-    let last = at + 15;
+    let at = k * PLACES;
+    let last = at + LAST;
     let first = items[at];
-    for i in 0..15 {
+    for i in 0..LAST {
         items[at + i] = items[at + i + 1];
     }
     items[last] = 0;
@@ -99,8 +122,8 @@ pub fn pop(items: &mut [u16; 1024], lens: &mut [u8; 64], k: usize) -> u16
 }
 
 // The number of the lowest zone of a set whose channel is full; 0 where all have a free place. The index is of a zone of a site.
-pub fn first_full(lens: &[u8; 64], from: usize, to: u8) -> u8
-    requires { ⌜ from < 8 ⌝ }
+pub fn first_full(lens: &[u8; CHANNELS], from: usize, to: u8) -> u8
+    requires { ⌜ from < mostZones ⌝ }
     ensures { λ r. ⌜
         ((items : List ℕ) → r ≡ firstFull (channelsAs items (now (lens .entry))) from to)
         ⌝ }
@@ -109,7 +132,7 @@ pub fn first_full(lens: &[u8; 64], from: usize, to: u8) -> u8
     while rest != 0 {
         let j = u8::trailing_zeros(rest) as usize;
         let k = place(from, j);
-        if 16 <= lens[k] {
+        if MOST_ITEMS <= lens[k] {
             return j as u8 + 1;
         }
         rest = rest & (rest - 1);
@@ -119,14 +142,20 @@ pub fn first_full(lens: &[u8; 64], from: usize, to: u8) -> u8
 
 // A request, carrying a set, on the channel to each zone of another set: as many as that set has ones, the next one to the zone that
 // its trailing zeros name. The index is of a zone of a site.
-pub fn request_all(items: &mut [u16; 1024], lens: &mut [u8; 64], from: usize, to: u8, set: u8)
-    requires { ⌜ from < 8 ⌝ }
+pub fn request_all(
+    items: &mut [u16; WORDS],
+    lens: &mut [u8; CHANNELS],
+    from: usize,
+    to: u8,
+    set: u8,
+)
+    requires { ⌜ from < mostZones ⌝ }
     ensures { λ r. ⌜
         channelsAs (now (items .exit)) (now (lens .exit))
         ≡ requestedAll (channelsAs (now (items .entry)) (now (lens .entry))) from to set
         ⌝ }
 {
-    let word = 512 + set as u16;
+    let word = REQUEST_WEIGHT + set as u16;
     let mut rest = to;
     let mut left = u8::count_ones(to);
     while left != 0 {

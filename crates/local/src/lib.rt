@@ -2,6 +2,7 @@
 // rules' specs/Zone.antt, or of this crate's specs/Asked.antt. Zones are named by index: the number less one.
 ghost use mathlib.Core.Path.{_≡_};
 ghost use Prim.Native.Nat.{_+_, _<_, _≤_};
+ghost use Rattle.rules.specs.Limits.{mostZones, mostCars, mostRecords};
 ghost use Rattle.rules.specs.Zone.{isMarked, isPermanent, opened, sent, depsAfter, checkpointAfter, received, withCheckpoint};
 ghost use Rattle.rules.specs.declared.Checkpoint.the-variants.{Permanent};
 ghost use Rattle.rules.specs.Sets.{only};
@@ -41,7 +42,7 @@ pub fn is_permanent(mark: Checkpoint) -> bool
 
 // The set of the zone at an index alone.
 fn bit(index: u8) -> u8
-    requires { ⌜ index < 8 ⌝ }
+    requires { ⌜ index < mostZones ⌝ }
     ensures { λ r. ⌜ r ≡ only index ⌝ }
 {
     1u8 << index
@@ -49,7 +50,7 @@ fn bit(index: u8) -> u8
 
 // A zone at first. The index is below 8, as a set of zones has 8 bits.
 pub fn open(me: u8, stock: u16) -> Local
-    requires { ⌜ me < 8 ⌝ }
+    requires { ⌜ me < mostZones ⌝ }
     ensures { λ r. ⌜ r ≡ opened me stock ⌝ }
 {
     Local {
@@ -62,7 +63,7 @@ pub fn open(me: u8, stock: u16) -> Local
 
 // The sender's side of a message. The caller has asked whether the stock covers the cars and counts own events up to 1,000.
 pub fn send(mut z: Local, cars: u8) -> Local
-    requires { ⌜ (cars ≤ z .stock) × (z .events < 1000) ⌝ }
+    requires { ⌜ (cars ≤ z .stock) × (z .events < mostRecords) ⌝ }
     ensures { λ r. ⌜ r ≡ sent cars z ⌝ }
 {
     z.stock = z.stock - cars as u16;
@@ -72,7 +73,7 @@ pub fn send(mut z: Local, cars: u8) -> Local
 
 // The dependency set after a message with this flag from a zone.
 fn deps_after(mark: Checkpoint, deps: u8, from: u8, flag: bool) -> u8
-    requires { ⌜ from < 8 ⌝ }
+    requires { ⌜ from < mostZones ⌝ }
     ensures { λ r. ⌜ r ≡ depsAfter mark deps from flag ⌝ }
 {
     let grown = deps | bit(from);
@@ -96,7 +97,7 @@ fn checkpoint_after(mark: Checkpoint, now: Saved, flag: bool) -> Checkpoint
 
 // The receiver's side of a message. The caller knows that the stock stays within 16 bits and counts own events up to 1,000.
 pub fn receive(z: Local, from: u8, cars: u8, flag: bool) -> Local
-    requires { ⌜ (from < 8) × (z .stock + cars ≤ 65535) × (z .events < 1000) ⌝ }
+    requires { ⌜ (from < mostZones) × (z .stock + cars ≤ mostCars) × (z .events < mostRecords) ⌝ }
     ensures { λ r. ⌜ r ≡ received from cars flag z ⌝ }
 {
     let stock = z.stock + cars as u16;
@@ -133,7 +134,7 @@ fn permanent(z: Local, kept: Saved) -> Local
 
 // The state with a permanent checkpoint, and the requests that it sends after a set was received.
 fn turn(z: Local, kept: Saved, me: u8, set: u8) -> Asked
-    requires { ⌜ me < 8 ⌝ }
+    requires { ⌜ me < mostZones ⌝ }
     ensures { λ r. ⌜ r ≡ turned kept me set z ⌝ }
 {
     let local = permanent(z, kept);
@@ -156,7 +157,7 @@ fn turn(z: Local, kept: Saved, me: u8, set: u8) -> Asked
 
 // Receipt of a request. The index is below 8, as a set of zones has 8 bits.
 pub fn request(z: Local, me: u8, set: u8) -> Asked
-    requires { ⌜ me < 8 ⌝ }
+    requires { ⌜ me < mostZones ⌝ }
     ensures { λ r. ⌜ r ≡ requestedBy me set z ⌝ }
 {
     let now = Saved {
@@ -177,7 +178,7 @@ pub fn request(z: Local, me: u8, set: u8) -> Asked
 
 // Start: a permanent checkpoint of this moment, whatever stood before. The index is below 8, as a set of zones has 8 bits.
 pub fn start(z: Local, me: u8) -> Asked
-    requires { ⌜ me < 8 ⌝ }
+    requires { ⌜ me < mostZones ⌝ }
     ensures { λ r. ⌜ r ≡ startedBy me z ⌝ }
 {
     let now = Saved {

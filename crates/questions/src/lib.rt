@@ -2,12 +2,14 @@
 ghost use mathlib.Core.Path.{_≡_};
 ghost use Rattle.rules.specs.Questions.{isCount, isOn};
 ghost use Rattle.rules.specs.Sets.{within};
+use rules::FEWEST_ZONES;
+use rules::MOST_ZONES;
 
 // Question 2: whether a site has so many zones.
 pub fn is_count(count: u8) -> bool
     ensures { λ r. ⌜ r ≡ isCount count ⌝ }
 {
-    (2 <= count) & (count <= 8)
+    (FEWEST_ZONES <= count) & (count <= MOST_ZONES)
 }
 
 // Question 5, of one named zone: whether it is on a site of `count` zones.
@@ -21,7 +23,7 @@ pub fn is_on(count: u8, zone: u8) -> bool
 pub fn is_within(set: u8, count: u8) -> bool
     ensures { λ r. ⌜ r ≡ within set count ⌝ }
 {
-    if 8 <= count {
+    if MOST_ZONES <= count {
         return true;
     }
     set >> count == 0

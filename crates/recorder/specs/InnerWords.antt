@@ -7,7 +7,7 @@ use lib.Dec.{ltb, leb}
 use lib.ListN.{length, getD, take}
 use Rattle.rules.specs.Below.{listBelow}
 use Rattle.rules.specs.Cut.{eventsOf, stockOf}
-use Rattle.rules.specs.Limits.{mostZones}
+use Rattle.rules.specs.Limits.{mostZones, mostRecords}
 use Rattle.rules.specs.Questions.{question, ask}
 use Rattle.rules.specs.Zone.{isPermanent}
 use Rattle.rules.specs.declared.Checkpoint.{Checkpoint}
@@ -51,10 +51,10 @@ recordedBytes h ws ns = wordsBytes (recordedWords h ws ns)
 pub record Fitting (h : Head) (ws ns : List ℕ) : Type 0 where
   pub fewest : 1 ≤ countOf h
   pub most : countOf h ≤ 8
-  pub events : (i : ℕ) → i < countOf h → eventsOf (zoneAt h i .checkpoint) ≤ 1000
-  pub records : length ws ≤ 1000
+  pub events : (i : ℕ) → i < countOf h → eventsOf (zoneAt h i .checkpoint) ≤ mostRecords
+  pub records : length ws ≤ mostRecords
   pub numbers : length ns ≡ length ws
-  pub items : length (itemsWords h ws ns) ≤ 1000
+  pub items : length (itemsWords h ws ns) ≤ mostRecords
 
 -- Question 1 passes the run, and the own-event numbers of its records stand at the front of `owns`.
 pub record Replayed (r : Run) (owns : List ℕ) : Type 0 where

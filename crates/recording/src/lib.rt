@@ -1,5 +1,11 @@
 // The recording of a run, written as bytes.
 ghost use Rattle.recording.specs.declared.Recorded.{Recorded};
+use rules::RECORDS;
+use rules::ZONES;
+
+// The bytes of the longest recording (`recording-most`): a header word, two words for each zone, a word for each item, and no item is
+// without its record.
+pub const RECORDING_BYTES: usize = 2 + 4 * ZONES + 2 * RECORDS;
 
 // What the recording of a journal answers: the refusal's number or 0, the position of the record that was refused with 18 or 19, and the
 // number of bytes written.

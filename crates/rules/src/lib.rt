@@ -1,5 +1,29 @@
-// The types that the rules of mutable checkpointing speak of. The rules themselves are definitions (specs/), to be read beside
+// The types and limits that the rules of mutable checkpointing speak of. The rules themselves are definitions (specs/), to be read beside
 // document 01, and the theorem over them stands in proofs/; this crate has no function.
+
+// The limits of document 01 by their names in specs/Limits.antt, each in the type of the number that it bounds.
+pub const FEWEST_ZONES: u8 = 2;
+
+pub const MOST_ZONES: u8 = 8;
+
+pub const MOST_CARS: u16 = 65535;
+
+pub const MOST_RECORDS: u16 = 1000;
+
+pub const EDITION: u8 = 1;
+
+// `mostCars` as the bound of a sum, which is computed in 32 bits.
+pub const MOST_SUM: u32 = MOST_CARS as u32;
+
+// `places` as the most items that a channel holds.
+pub const MOST_ITEMS: u8 = 16;
+
+// `mostZones`, `places` and `mostRecords` as lengths of arrays.
+pub const ZONES: usize = MOST_ZONES as usize;
+
+pub const PLACES: usize = MOST_ITEMS as usize;
+
+pub const RECORDS: usize = MOST_RECORDS as usize;
 
 // The stock and the number of own events that a checkpoint keeps.
 pub struct Saved {

@@ -2,7 +2,8 @@
 ghost use mathlib.Core.Path.{_≡_};
 ghost use Prim.Native.Nat.{_<_, _≤_};
 ghost use lib.ListN.{length};
-ghost use Rattle.channel.specs.Channels.{channelsAs};
+ghost use Rattle.rules.specs.Limits.{mostZones};
+ghost use Rattle.channel.specs.Channels.{mostChannels, mostWords, channelsAs};
 ghost use Rattle.run.specs.State.{countOf};
 ghost use Rattle.journal.specs.Writing.{
   sameSaved,
@@ -14,8 +15,11 @@ ghost use Rattle.journal.specs.Writing.{
   sameState,
 };
 ghost use Rattle.same.specs.InnerAt.{sameAt, sameFrom};
+use channel::CHANNELS;
+use channel::WORDS;
 use rules::Checkpoint;
 use rules::Local;
+use rules::PLACES;
 use rules::Saved;
 use run::Head;
 use run::Run;
@@ -62,7 +66,7 @@ fn same_local(a: Local, b: Local) -> bool
 
 // Whether the zones of a site of `count` zones are the same. A site has at most 8.
 fn same_zones(count: u8, a: Head, b: Head) -> bool
-    requires { ⌜ count ≤ 8 ⌝ }
+    requires { ⌜ count ≤ mostZones ⌝ }
     ensures { λ r. ⌜ r ≡ sameZones count a b ⌝ }
 {
     let xs = a.zones;
@@ -80,13 +84,13 @@ fn same_zones(count: u8, a: Head, b: Head) -> bool
 
 // Whether channel k holds the same words. That the words are 1,024 is true of every array.
 fn same_channel(
-    a: &[u16; 1024],
-    alens: &[u8; 64],
-    b: &[u16; 1024],
-    blens: &[u8; 64],
+    a: &[u16; WORDS],
+    alens: &[u8; CHANNELS],
+    b: &[u16; WORDS],
+    blens: &[u8; CHANNELS],
     k: usize,
 ) -> bool
-    requires { ⌜ (k < 64) × (length (now a) ≡ 1024) × (length (now b) ≡ 1024) ⌝ }
+    requires { ⌜ (k < mostChannels) × (length (now a) ≡ mostWords) × (length (now b) ≡ mostWords) ⌝ }
     ensures { λ r. ⌜
         r ≡ sameChannel (channelsAs (now (a .entry)) (now (alens .entry)))
         (channelsAs (now (b .entry)) (now (blens .entry))) k
@@ -100,7 +104,7 @@ fn same_channel(
     let mut same = true;
     let mut p = 0;
     while p < n {
-        let at = k * 16 + p;
+        let at = k * PLACES + p;
         same = same & (a[at] == b[at]);
         p += 1;
     }
@@ -110,13 +114,13 @@ fn same_channel(
 // One place for a channel: nothing is asked of a channel that the site does not have.
 fn same_at(
     count: u8,
-    a: &[u16; 1024],
-    alens: &[u8; 64],
-    b: &[u16; 1024],
-    blens: &[u8; 64],
+    a: &[u16; WORDS],
+    alens: &[u8; CHANNELS],
+    b: &[u16; WORDS],
+    blens: &[u8; CHANNELS],
     k: usize,
 ) -> bool
-    requires { ⌜ (k < 64) × (length (now a) ≡ 1024) × (length (now b) ≡ 1024) ⌝ }
+    requires { ⌜ (k < mostChannels) × (length (now a) ≡ mostWords) × (length (now b) ≡ mostWords) ⌝ }
     ensures { λ r. ⌜
         r ≡ sameAt count (channelsAs (now (a .entry)) (now (alens .entry)))
         (channelsAs (now (b .entry)) (now (blens .entry))) k
@@ -131,13 +135,13 @@ fn same_at(
 // The places for channels from one zone. Most channels are empty in both, so the lengths are looked at first.
 fn same_from(
     count: u8,
-    a: &[u16; 1024],
-    alens: &[u8; 64],
-    b: &[u16; 1024],
-    blens: &[u8; 64],
+    a: &[u16; WORDS],
+    alens: &[u8; CHANNELS],
+    b: &[u16; WORDS],
+    blens: &[u8; CHANNELS],
     from: usize,
 ) -> bool
-    requires { ⌜ (from < 8) × (count ≤ 8) × (length (now a) ≡ 1024) × (length (now b) ≡ 1024) ⌝ }
+    requires { ⌜ (from < mostZones) × (count ≤ mostZones) × (length (now a) ≡ mostWords) × (length (now b) ≡ mostWords) ⌝ }
     ensures { λ r. ⌜
         r ≡ sameFrom count (channelsAs (now (a .entry)) (now (alens .entry)))
         (channelsAs (now (b .entry)) (now (blens .entry))) from
@@ -160,12 +164,12 @@ fn same_from(
 // channels from a zone are looked at first.
 fn same_channels(
     count: u8,
-    a: &[u16; 1024],
-    alens: &[u8; 64],
-    b: &[u16; 1024],
-    blens: &[u8; 64],
+    a: &[u16; WORDS],
+    alens: &[u8; CHANNELS],
+    b: &[u16; WORDS],
+    blens: &[u8; CHANNELS],
 ) -> bool
-    requires { ⌜ (count ≤ 8) × (length (now a) ≡ 1024) × (length (now b) ≡ 1024) ⌝ }
+    requires { ⌜ (count ≤ mostZones) × (length (now a) ≡ mostWords) × (length (now b) ≡ mostWords) ⌝ }
     ensures { λ r. ⌜
         r ≡ sameChannels count (channelsAs (now (a .entry)) (now (alens .entry)))
         (channelsAs (now (b .entry)) (now (blens .entry)))
@@ -186,7 +190,7 @@ fn same_channels(
 
 // Whether a run has the state of another one, over the zones and channels of the other's site, which has at most 8 zones.
 pub fn same_state(a: Run, b: Run) -> bool
-    requires { ⌜ countOf (b .head) ≤ 8 ⌝ }
+    requires { ⌜ countOf (b .head) ≤ mostZones ⌝ }
     ensures { λ r. ⌜ r ≡ sameState a b ⌝ }
 {
     let ahead = a.head;

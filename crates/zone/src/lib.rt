@@ -2,6 +2,7 @@
 // the next one, and answers the number of the first question that was answered no, or 0.
 ghost use mathlib.Core.Path.{_≡_};
 ghost use Prim.Native.Nat.{_≤_};
+ghost use Rattle.rules.specs.Limits.{mostZones};
 ghost use Rattle.rules.specs.Sets.{size};
 ghost use Rattle.zone.specs.Zone.{
   isOther,
@@ -15,7 +16,10 @@ ghost use Rattle.zone.specs.Zone.{
   startStep,
 };
 use rules::Checkpoint;
+use rules::FEWEST_ZONES;
 use rules::Local;
+use rules::MOST_CARS;
+use rules::MOST_RECORDS;
 
 // One zone: its number and the zone count of its site, its stock, its dependency set ("heard set": the zone numbered k is the bit of
 // weight 2 to the power k - 1), its own events and its checkpoint ("mark").
@@ -64,13 +68,13 @@ impl Zone {
         if !questions::is_count(count) {
             return Opening {
                 refusal: 2,
-                zone: opened(2, 1, 0),
+                zone: opened(FEWEST_ZONES, 1, 0),
             };
         }
         if !questions::is_on(count, number) {
             return Opening {
                 refusal: 5,
-                zone: opened(2, 1, 0),
+                zone: opened(FEWEST_ZONES, 1, 0),
             };
         }
         Opening {
@@ -111,8 +115,8 @@ impl Zone {
         let a = questions::is_count(self.count);
         let b = questions::is_on(self.count, self.number);
         let c = questions::is_within(self.deps, self.count);
-        let d = self.stock <= 65535;
-        let e = self.events <= 1000;
+        let d = self.stock <= MOST_CARS;
+        let e = self.events <= MOST_RECORDS;
         a & b & c & d & e
     }
 
@@ -134,7 +138,7 @@ impl Zone {
         if !self.is_other(to) {
             return refused(self, 5);
         }
-        if 1000 <= self.events {
+        if MOST_RECORDS <= self.events {
             return refused(self, 6);
         }
         if self.stock < cars as u16 {
@@ -163,10 +167,10 @@ impl Zone {
         if !self.is_other(from) {
             return refused(self, 5);
         }
-        if 1000 <= self.events {
+        if MOST_RECORDS <= self.events {
             return refused(self, 6);
         }
-        if 65535 - (cars as u16) < self.stock {
+        if MOST_CARS - (cars as u16) < self.stock {
             return refused(self, 20);
         }
         let next = local::receive(self.local(), from - 1, cars, flag);
@@ -227,7 +231,7 @@ impl Zone {
 }
 
 fn opened(count: u8, number: u8, stock: u16) -> Zone
-    requires { ⌜ (1 ≤ number) × (number ≤ 8) ⌝ }
+    requires { ⌜ (1 ≤ number) × (number ≤ mostZones) ⌝ }
     ensures { λ r. ⌜ r ≡ Rattle.zone.specs.Zone.openedZone count number stock ⌝ }
 {
     let local = local::open(number - 1, stock);
