@@ -1,30 +1,33 @@
 -- `scan::zones_of` meets its contract, by what the zones before the next one add up to.
-use mathlib.Core.Path.{_≡_, refl, _∙_}
+use mathlib.Core.Path.{_≡_, refl, _∙_, ap}
 use Prim.Native.Nat.{_-_, _*_, _≤_}
 use native.Mathlib.Omega.{arith}
 use borrow.Author.Needs.{needs}
 use Rattle.rules.specs.Below.{allBelow, sumBelow}
-use lib.ListN.{getD}
-use Rattle.run.specs.State.{countOf, noLocal, zoneAt, zoneSound, zonesSound, stocks}
+use Rattle.rules.specs.declared.Local.{Local}
+use Rattle.run.specs.State.{countOf, zoneAt, zoneSound, zonesSound, stocks}
 use Rattle.run.proofs.BelowLaws.{all-to, all-next, sum-to, sum-next}
 use Rattle.scan.proofs.zones_of.Statement.{statement}
 use Rattle.scan.proofs.zones_of.Tie as tie
 
 abbrev Inv-loop : tie.InvT-loop
-Inv-loop count records zones sound₀ cars₀ i₀ sound cars i =
-    (i ≤ count) × (sound ≡ allBelow i (λ k. zoneSound count records (getD zones k noLocal)))
-    × (cars ≡ sumBelow i (λ k. getD zones k noLocal .stock))
+Inv-loop head count records sound₀ cars₀ i₀ sound cars i =
+    (i ≤ count) × (sound ≡ allBelow i (λ k. zoneSound count records (zoneAt head k)))
+    × (cars ≡ sumBelow i (λ k. zoneAt head k .stock))
     × (cars ≤ 65535 * i)
 
 abbrev μ-loop : tie.MeasureT-loop
-μ-loop count records zones sound₀ cars₀ i₀ sound cars i = count - i
+μ-loop head count records sound₀ cars₀ i₀ sound cars i = count - i
 
--- The start as seen from the loop, and the loop from the end of its body.
+-- Landmarks: the start, as seen from the loop; the zone is found; the loop, as seen from there.
 abbrev start : tie.At-loop Inv-loop μ-loop → tie.Start Inv-loop μ-loop
-start c = c .before .before .before .before
+start c = c .before .before .before
 
-abbrev looped : tie.After-struct-known Inv-loop μ-loop → tie.At-loop Inv-loop μ-loop
-looped c = c .before .before .before .before
+abbrev found : tie.After-struct-known Inv-loop μ-loop → tie.After-zone-at Inv-loop μ-loop
+found c = c .before .before
+
+abbrev looped : tie.After-zone-at Inv-loop μ-loop → tie.At-loop Inv-loop μ-loop
+looped c = c .before .before
 
 loop-holds : tie.Need-loop-holds Inv-loop μ-loop
 loop-holds c = (omega arith, refl, refl, omega arith)
@@ -32,11 +35,8 @@ loop-holds c = (omega arith, refl, refl, omega arith)
 cast-loop : tie.Need-cast-loop Inv-loop μ-loop
 cast-loop c = search needs
 
-mul-z : tie.Need-mul-z Inv-loop μ-loop
-mul-z c = search needs
-
-array-copy-out-z : tie.Need-array-copy-out-z Inv-loop μ-loop
-array-copy-out-z c = search needs
+zone-at-requires : tie.Need-zone-at-requires Inv-loop μ-loop
+zone-at-requires c κs = search needs
 
 zone-requires : tie.Need-zone-requires Inv-loop μ-loop
 zone-requires c κs = search needs
@@ -55,8 +55,14 @@ loop-less c = search needs
 
 loop-again : tie.Need-loop-again Inv-loop μ-loop
 loop-again c =
-    let b = looped c .loop in
-    (omega arith, all-next _ (b .i) (b .inv .1) (c .before .zone .ensures), sum-next _ (b .i) (b .inv .2) refl, omega (arith, b .inv .3))
+    let l = looped (found c) in
+    let h = start l .args .head in
+    let e = found c .zone-at .ensures in (
+      omega arith,
+      all-next _ (l .loop .i) (l .loop .inv .1) (c .before .zone .ensures ∙ ap (zoneSound (countOf h) (h .records)) e),
+      sum-next _ (l .loop .i) (l .loop .inv .2) (ap (λ (z : Local). z .stock) e),
+      omega (arith, l .loop .inv .3),
+    )
 
 returns : tie.Need-returns Inv-loop μ-loop
 unfolding zonesSound stocks
@@ -77,8 +83,7 @@ zones-of-spec =
     μ-loop
     loop-holds
     cast-loop
-    mul-z
-    array-copy-out-z
+    zone-at-requires
     zone-requires
     cast-cars
     add-cars
