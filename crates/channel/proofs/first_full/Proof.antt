@@ -21,6 +21,10 @@ Inv-loop lens from to rest₀ rest =
 abbrev μ-loop : tie.MeasureT-loop
 μ-loop lens from to rest₀ rest = rest
 
+-- Landmark: the loop, as seen from the look at a channel's length.
+abbrev looped : tie.After-if12 Inv-loop μ-loop → tie.At-loop Inv-loop μ-loop
+looped c = c .before .before .before
+
 loop-holds : tie.Need-loop-holds Inv-loop μ-loop
 loop-holds c = (c .fits .to .fits, λ items. refl)
 
@@ -38,19 +42,20 @@ element-copy-out-if1 c = search needs
 
 cast-result : tie.Need-cast-result Inv-loop μ-loop
 cast-result c =
-    let l = c .before .before .before .before .loop in
+    let l = looped (c .before) .loop in
     omega (arith, trailing-le 8 (l .rest))
 
 add-result : tie.Need-add-result Inv-loop μ-loop
 add-result c =
-    let l = c .before .before .before .before .loop in
+    let l = looped (c .before) .loop in
     omega (arith, trailing-le 8 (l .rest))
 
 returns : tie.Need-returns Inv-loop μ-loop
 unfolding firstFull
 returns c =
-    let l = c .before .before .before .before .loop in
-    let a = c .before .before .before .before .before .args in
+    let b = looped (c .before) in
+    let l = b .loop in
+    let a = b .before .args in
     let n = getD (a .lens .now) (place (a .from) (trailingZeros 8 (l .rest))) 0 in
     let h : 16 ≤ n = omega (arith, ap (λ (k : ℕ). getD (a .lens .now) k 0) (c .before .before .place .ensures .0)) in
     λ items. rw (← l .inv .1 items, members-step (l .rest) (l .inv .0) (omega arith), le-ltb n 16 h)
@@ -60,14 +65,15 @@ sub-rest c = search needs
 
 loop-less : tie.Need-loop-less Inv-loop μ-loop
 loop-less c =
-    let s = c .before .before .before .before .loop .rest in
+    let s = looped (c .before) .loop .rest in
     omega (arith, and-le-r s (s - 1))
 
 loop-again : tie.Need-loop-again Inv-loop μ-loop
 loop-again c =
-    let l = c .before .before .before .before .loop in
+    let b = looped (c .before) in
+    let l = b .loop in
     let s = l .rest in
-    let a = c .before .before .before .before .before .args in
+    let a = b .before .args in
     let n = getD (a .lens .now) (place (a .from) (trailingZeros 8 s)) 0 in
     let h : n < 16 = omega (arith, ap (λ (k : ℕ). getD (a .lens .now) k 0) (c .before .before .place .ensures .0)) in
     (omega (arith, and-le-l s (s - 1), l .inv .0), λ items. rw (← l .inv .1 items, members-step s (l .inv .0) (omega arith), lt-ltb n 16 h))

@@ -22,6 +22,13 @@ Inv-loop items₀ lens₀ from to set word rest₀ left₀ items lens rest left 
 abbrev μ-loop : tie.MeasureT-loop
 μ-loop items₀ lens₀ from to set word rest₀ left₀ items lens rest left = left
 
+-- Landmarks: the channel's place found; the loop, as seen from there.
+abbrev placed : tie.After-push Inv-loop μ-loop → tie.After-place Inv-loop μ-loop
+placed c = c .before .before .before
+
+abbrev looped : tie.After-place Inv-loop μ-loop → tie.At-loop Inv-loop μ-loop
+looped c = c .before .before
+
 add-word : tie.Need-add-word Inv-loop μ-loop
 add-word c = search needs
 
@@ -41,7 +48,7 @@ push-requires : tie.Need-push-requires Inv-loop μ-loop
 push-requires c κs = search needs
 
 sub-rest : tie.Need-sub-rest Inv-loop μ-loop
-sub-rest c = some-left _ _ (c .before .before .before .before .before .loop .inv .1) (omega arith)
+sub-rest c = some-left _ _ (looped (placed c) .loop .inv .1) (omega arith)
 
 sub-left : tie.Need-sub-left Inv-loop μ-loop
 sub-left c = search needs
@@ -51,12 +58,12 @@ loop-less c = search needs
 
 loop-again : tie.Need-loop-again Inv-loop μ-loop
 loop-again c =
-    let l = c .before .before .before .before .before .loop in
+    let l = looped (placed c) .loop in
     let s = l .rest in
     let step = members-step s (l .inv .0) (some-left _ _ (l .inv .1) (omega arith)) in (
       omega (arith, and-le-l s (s - 1), l .inv .0),
       omega (arith, l .inv .1, ap (length {A = ℕ}) step),
-      rw (c .push .ensures, c .before .before .before .place .ensures .0) (rw (step) at (l .inv .2)),
+      rw (c .push .ensures, placed c .place .ensures .0) (rw (step) at (l .inv .2)),
     )
 
 returns : tie.Need-returns Inv-loop μ-loop

@@ -6,6 +6,10 @@ use borrow.Author.Needs.{needs}
 use Rattle.recorder.proofs.is_quiet.Statement.{statement}
 use Rattle.recorder.proofs.is_quiet.Tie as tie
 
+-- Landmark: the start, as seen from the question whether the site has the channel.
+abbrev start : tie.After-is-channel → tie.Start
+start c = c .before .before .before
+
 element-copy-out-if1 : tie.Need-element-copy-out-if1
 element-copy-out-if1 c = search needs
 
@@ -16,13 +20,17 @@ is-channel-requires : tie.Need-is-channel-requires
 is-channel-requires c κs = search needs
 
 returns-2 : tie.Need-returns-2
-returns-2 c = let a = c .before .before .before .before .args in quiet-none (a .count) (channelsAs (a .items .now) (a .lens .now)) (a .k) (no (c .before .is-channel .ensures) (c .if2 .taken))
+returns-2 c =
+    let a = start (c .before) .args in
+    quiet-none (a .count) (channelsAs (a .items .now) (a .lens .now)) (a .k) (no (c .before .is-channel .ensures) (c .if2 .taken))
 
 is-waiting-requires : tie.Need-is-waiting-requires
 is-waiting-requires c κs = search needs
 
 returns-3 : tie.Need-returns-3
-returns-3 c = let a = c .before .before .before .before .before .args in quiet-looked (a .count) (channelsAs (a .items .now) (a .lens .now)) (a .k) _ (yes (c .before .before .is-channel .ensures) (c .before .if2 .left)) (c .is-waiting .ensures)
+returns-3 c =
+    let a = start (c .before .before) .args in
+    quiet-looked (a .count) (channelsAs (a .items .now) (a .lens .now)) (a .k) _ (yes (c .before .before .is-channel .ensures) (c .before .if2 .left)) (c .is-waiting .ensures)
 
 pub is-quiet-spec : {M : Type 1} → statement M
 is-quiet-spec =

@@ -17,7 +17,7 @@ use Rattle.run.specs.declared.SiteCall.the-variants.{Start}
 use Rattle.run.specs.Calls.{answer}
 use Rattle.recorder.proofs.record_replayed.Tie as tie
 
--- Landmarks: 12 answered yes; 13 answered yes.
+-- Landmarks: 12 answered yes; 13 answered yes; the records are lent; their own-event numbers are lent.
 abbrev start : tie.After-has-started → tie.Start
 start c = c .before .before .before .before
 
@@ -27,8 +27,11 @@ asked c = c .before
 abbrev searched : tie.After-no-requests → tie.Else1
 searched c = c .before .before .before .before .before .before .before .before
 
+abbrev cut : tie.After-journal2 → tie.Else2
+cut c = c .before .before .before .before
+
 abbrev sized : tie.After-write-sized-arg3 → tie.Else2
-sized c = c .before .before .before .before .before .before
+sized c = cut (c .before .before)
 
 begun : (c : tie.Else1) → hasStarted (start (asked c) .args .run .head) ≡ true
 begun c = sym (asked c .has-started .ensures) ∙ not-false _ (c .if1 .left)
@@ -70,7 +73,7 @@ part-write-sized-start c = search needs
 
 part-write-sized-end : tie.Need-part-write-sized-end
 part-write-sized-end c =
-    let s = start (asked (searched (c .before .before .before .before .before))) in
+    let s = start (asked (searched (cut c .before))) in
     enough-words _ _ (s .pre)
 
 sub-write-sized-2 : tie.Need-sub-write-sized-2
@@ -81,7 +84,7 @@ part-write-sized-start-2 c = search needs
 
 part-write-sized-end-2 : tie.Need-part-write-sized-end-2
 part-write-sized-end-2 c =
-    let s = start (asked (searched (c .before .before .before .before .before .before))) in
+    let s = start (asked (searched (cut (c .before) .before))) in
     enough-owns _ _ (s .pre)
 
 write-sized-requires : tie.Need-write-sized-requires

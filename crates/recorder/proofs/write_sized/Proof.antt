@@ -85,8 +85,9 @@ same-length c = search needs
 
 returns-2 : tie.Need-returns-2
 returns-2 c =
-    let w = c .before .before .write-all in
-    let t = c .before .before .before .before .before in
+    let d = c .before .before in
+    let w = d .write-all in
+    let t = d .before .before .before in
     let b = t .before in
     let a = start (events b) .args in
     let e = enough (a .head) (a .words .now) (a .owns .now) _ _ (a .out .now) (events b .shown-events .ensures) (number-is b)

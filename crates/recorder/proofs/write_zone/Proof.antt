@@ -30,10 +30,12 @@ same-length c = search needs
 
 returns : tie.Need-returns
 returns c =
-    let v = c .before .before .write-word2 in
-    let u = c .before .before .before .before .before .before .write-word in
-    rw (← c .before .before .before .before .before .before .before .before .before .zone-word .ensures, ← c .before .before .before .before .before .before .before .before .stock-of .ensures)
-    (more-wrote _ _ _ _ _ 2 2 (word-wrote _ _ _ (u .ensures)) (c .before .before .before .before .before .before .before .before .before .before .before .pre .1) (word-wrote _ _ _ (v .ensures)))
+    let second = c .before .before in
+    let first = second .before .before .before .before in
+    let found = first .before .before in
+    let s = found .before .before .before in
+    rw (← found .before .zone-word .ensures, ← found .stock-of .ensures)
+    (more-wrote _ _ _ _ _ 2 2 (word-wrote _ _ _ (first .write-word .ensures)) (s .pre .1) (word-wrote _ _ _ (second .write-word2 .ensures)))
 
 pub write-zone-spec : {M : Type 1} → statement M
 write-zone-spec =

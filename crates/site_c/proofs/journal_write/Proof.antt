@@ -30,10 +30,10 @@ same-length c = search needs
 returns-2 : tie.Need-returns-2
 unfolding writePlain
 returns-2 c =
-    let k = yes (c .before .before .before .before .before .before .before .are-kinds .ensures) (c .before .before .before .before .before .before .if1 .left) in
-    let w = c .before .before .before .write .ensures in
-    let r = c .before .before .before .before .before .run-of .ensures in
-    (rw (k, c .written-of .ensures, w .0, r), rw (k, w .1, r))
+    let w = c .before .before .before in
+    let r = w .before .before in
+    let k = yes (r .before .before .are-kinds .ensures) (r .before .if1 .left) in
+    (rw (k, c .written-of .ensures, w .write .ensures .0, r .run-of .ensures), rw (k, w .write .ensures .1, r .run-of .ensures))
 
 pub journal-write-spec : {M : Type 1} → statement M
 journal-write-spec =

@@ -55,14 +55,21 @@ local-of-requires-8 c κs = search needs
 returns : tie.Need-returns
 unfolding localsOf
 returns c =
+    let c₇ = c .before .before in
+    let c₆ = c₇ .before .before in
+    let c₅ = c₆ .before .before in
+    let c₄ = c₅ .before .before in
+    let c₃ = c₄ .before .before in
+    let c₂ = c₃ .before .before in
+    let c₁ = c₂ .before .before in
     rw (
-      c .before .before .before .before .before .before .before .before .before .before .before .before .before .before .local-of .ensures,
-      c .before .before .before .before .before .before .before .before .before .before .before .before .local-of2 .ensures,
-      c .before .before .before .before .before .before .before .before .before .before .local-of3 .ensures,
-      c .before .before .before .before .before .before .before .before .local-of4 .ensures,
-      c .before .before .before .before .before .before .local-of5 .ensures,
-      c .before .before .before .before .local-of6 .ensures,
-      c .before .before .local-of7 .ensures,
+      c₁ .local-of .ensures,
+      c₂ .local-of2 .ensures,
+      c₃ .local-of3 .ensures,
+      c₄ .local-of4 .ensures,
+      c₅ .local-of5 .ensures,
+      c₆ .local-of6 .ensures,
+      c₇ .local-of7 .ensures,
       c .local-of8 .ensures,
     )
 

@@ -55,14 +55,21 @@ plain-local-requires-8 c κs = search needs
 returns : tie.Need-returns
 unfolding plainLocals
 returns c =
+    let c₇ = c .before .before in
+    let c₆ = c₇ .before .before in
+    let c₅ = c₆ .before .before in
+    let c₄ = c₅ .before .before in
+    let c₃ = c₄ .before .before in
+    let c₂ = c₃ .before .before in
+    let c₁ = c₂ .before .before in
     rw (
-      c .before .before .before .before .before .before .before .before .before .before .before .before .before .before .plain-local .ensures,
-      c .before .before .before .before .before .before .before .before .before .before .before .before .plain-local2 .ensures,
-      c .before .before .before .before .before .before .before .before .before .before .plain-local3 .ensures,
-      c .before .before .before .before .before .before .before .before .plain-local4 .ensures,
-      c .before .before .before .before .before .before .plain-local5 .ensures,
-      c .before .before .before .before .plain-local6 .ensures,
-      c .before .before .plain-local7 .ensures,
+      c₁ .plain-local .ensures,
+      c₂ .plain-local2 .ensures,
+      c₃ .plain-local3 .ensures,
+      c₄ .plain-local4 .ensures,
+      c₅ .plain-local5 .ensures,
+      c₆ .plain-local6 .ensures,
+      c₇ .plain-local7 .ensures,
       c .plain-local8 .ensures,
     )
 

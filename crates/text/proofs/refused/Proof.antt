@@ -9,6 +9,19 @@ use borrow.Author.Needs.{needs}
 use Rattle.text.proofs.refused.Statement.{statement}
 use Rattle.text.proofs.refused.Tie as tie
 
+-- Landmarks: the start; there is room; the word is written; the digits are written.
+abbrev start : tie.Else1 → tie.Start
+start c = c .before .before .before
+
+abbrev room : tie.After-word → tie.Else1
+room c = c .before .before
+
+abbrev worded : tie.After-decimal → tie.After-word
+worded c = c .before .before .before .before
+
+abbrev written : tie.After-slice-known3 → tie.After-decimal
+written c = c .before .before
+
 size-requires : tie.Need-size-requires
 size-requires c κs = search needs
 
@@ -35,20 +48,21 @@ add-result c = search needs
 
 same-length : tie.Need-same-length
 same-length c =
-    let w = c .before .before .before .before .before .before .word in
-    let d = c .before .before .decimal in
-    let a = c .before .before .before .before .before .before .before .before .before .before .before .args in
+    let w = worded (written c) .word in
+    let d = written c .decimal in
+    let a = start (room (worded (written c))) .args in
     length-set (d .last .1 .0) _ _ ∙ ap length (d .ensures) ∙ length-sets (w .last .0) 8 (decimalText (a .n)) ∙ ap length (w .ensures)
     ∙ length-sets (a .out .now) 0 refusedWord
 
 returns-2 : tie.Need-returns-2
 returns-2 c =
-    let a = c .before .before .before .before .before .before .before .before .before .before .before .args in
-    let s = c .before .before .before .before .before .before .before .before .before .size in
-    let w = c .before .before .before .before .before .before .word in
-    let d = c .before .before .decimal in
+    let w = worded (written c) .word in
+    let d = written c .decimal in
+    let r = room (worded (written c)) in
+    let s = r .before .size in
+    let a = start r .args in
     refused-printed (a .n) (a .out .now) (w .last .0) (d .last .1 .0) (s .result) (s .ensures .0)
-    (c .before .before .before .before .before .before .before .before .if1 .left) (w .ensures) (d .ensures)
+    (r .if1 .left) (w .ensures) (d .ensures)
 
 pub refused-spec : {M : Type 1} → statement M
 refused-spec =

@@ -1,8 +1,8 @@
 -- `shown` meets its contract. The loop's invariant: storing the bytes that are left gives what storing all of them gives.
-use mathlib.Core.Path.{_≡_, refl, _∙_}
+use mathlib.Core.Path.{_≡_, refl, _∙_, ap}
 use mathlib.Core.Logic.{⊎-elim}
 use mathlib.Core.List.{[]}
-use Prim.Native.Nat.{_*_, _-_, _≤_}
+use Prim.Native.Nat.{ℕ, _*_, _-_, _≤_}
 use native.Mathlib.Omega.{arith}
 use lib.ListN.{length, drop, length-set}
 use lib.Seq.{sets, drop-length}
@@ -18,8 +18,15 @@ Inv-loop bytes out₀ n most end i₀ out i =
 abbrev μ-loop : tie.MeasureT-loop
 μ-loop bytes out₀ n most end i₀ out i = n - i
 
+-- Landmarks: the start; the place of the line feed is known.
+abbrev start : tie.Joined2 Inv-loop μ-loop → tie.Start Inv-loop μ-loop
+start c = c .before .before .before .before
+
+abbrev placed : tie.At-loop Inv-loop μ-loop → tie.Joined2 Inv-loop μ-loop
+placed c = c .before .before
+
 -- The place of the line feed.
-end-is : (c : tie.Joined2 Inv-loop μ-loop) → c .if2 .end ≡ 3 * length (c .before .before .before .before .args .bytes .now) - 1
+end-is : (c : tie.Joined2 Inv-loop μ-loop) → c .if2 .end ≡ 3 * length (start c .args .bytes .now) - 1
 end-is c = ⊎-elim (λ w. omega arith) (λ w. omega arith) (c .if2 .came)
 
 returns : tie.Need-returns Inv-loop μ-loop
@@ -33,7 +40,7 @@ sub-end c = search needs
 
 returns-2 : tie.Need-returns-2 Inv-loop μ-loop
 returns-2 c =
-    let a = c .before .before .before .before .before .args in
+    let a = start (c .before) .args in
     let e = end-is (c .before) in
     shown-not-printed (a .bytes .now) (a .out .now) (omega arith)
 
@@ -81,8 +88,9 @@ loop-less c = search needs
 
 loop-again : tie.Need-loop-again Inv-loop μ-loop
 loop-again c =
-    let l = c .before .before .before .before .loop in
-    let a = c .before .before .before .before .before .before .before .before .before .before .args in (
+    let b = c .before .before .before .before in
+    let l = b .loop in
+    let a = start (placed b) .args in (
       omega arith,
       simp length-set (l .inv .1),
       rw (c .digit2 .ensures, c .before .digit .ensures)
@@ -100,12 +108,14 @@ same-length c = simp length-set (c .before .before .loop .inv .1)
 
 returns-3 : tie.Need-returns-3 Inv-loop μ-loop
 returns-3 c =
-    let l = c .before .before .loop in
-    let a = c .before .before .before .before .before .before .before .before .args in
+    let b = c .before .before in
+    let l = b .loop in
+    let e = placed b in
+    let a = start e .args in
     let n : l .i ≡ length (a .bytes .now) = omega arith in
-    let none : drop (l .i) (a .bytes .now) ≡ [] = rw n (drop-length (a .bytes .now)) in
-    shown-printed (a .bytes .now) (a .out .now) (l .out) (c .before .before .before .before .if2 .end)
-    (end-is (c .before .before .before .before)) (c .before .before .before .if3 .left) (rw none at (l .inv .2))
+    let none : drop (l .i) (a .bytes .now) ≡ [] = ap (λ (k : ℕ). drop k (a .bytes .now)) n ∙ drop-length (a .bytes .now) in
+    shown-printed (a .bytes .now) (a .out .now) (l .out) (e .if2 .end)
+    (end-is e) (b .before .if3 .left) (rw none at (l .inv .2))
 
 pub shown-spec : {M : Type 1} → statement M
 shown-spec =

@@ -11,19 +11,25 @@ use borrow.Author.Needs.{needs}
 use Rattle.zone.proofs.Zone.receive.Statement.{statement}
 use Rattle.zone.proofs.Zone.receive.Tie as tie
 
+-- Landmarks: the start; question 5 answered yes.
+abbrev start : tie.Else2 → tie.Start
+start c = c .before .before .before .before
+
+abbrev asked-5 : tie.Else4 → tie.Else2
+asked-5 c = c .before .before .before .before
+
 -- The questions passed.
 sound : (c : tie.Else1) → isSound (c .before .before .args .self) ≡ true
 sound c = yes (c .before .is-sound .ensures) (c .if1 .left)
 
-other : (c : tie.Else2) → isOther (c .before .before .before .before .args .self) (c .before .before .before .before .args .from) ≡ true
+other : (c : tie.Else2) → isOther (start c .args .self) (start c .args .from) ≡ true
 other c = yes (c .before .is-other .ensures) (c .if2 .left)
 
-from-number : (c : tie.Else2) → (1 ≤ c .before .before .before .before .args .from) × (c .before .before .before .before .args .from ≤ 8)
+from-number : (c : tie.Else2) → (1 ≤ start c .args .from) × (start c .args .from ≤ 8)
 from-number c = other-number _ _ (sound (c .before .before)) (other c)
 
-low : (c : tie.Else4)
-    → c .before .before .before .before .before .before .before .before .args .self .stock
-    + c .before .before .before .before .before .before .before .before .args .cars ≤ 65535
+low : (c : tie.Else4) → let a = start (asked-5 c) .args in
+    a .self .stock + a .cars ≤ 65535
 low c = omega arith
 
 is-sound-requires : tie.Need-is-sound-requires
@@ -67,8 +73,8 @@ returns-4 : tie.Need-returns-4
 unfolding receiveStep
 returns-4 c =
     let b = c .before .before .before in
-    let d = b .before .before .before .before .before .before .args in
-    let h : 65535 < d .self .stock + d .cars = omega arith in
+    let a = start (b .before .before) .args in
+    let h : 65535 < a .self .stock + a .cars = omega arith in
     rw (
       c .refused4 .ensures,
       sound (b .before .before .before .before),
@@ -81,11 +87,11 @@ local-requires : tie.Need-local-requires
 local-requires c κs = search needs
 
 sub-receive : tie.Need-sub-receive
-sub-receive c = from-number (c .before .before .before .before .before) .0
+sub-receive c = from-number (asked-5 (c .before)) .0
 
 receive-requires : tie.Need-receive-requires
 receive-requires c κs =
-    let n = from-number (c .before .before .before .before .before) in
+    let n = from-number (asked-5 (c .before)) in
     rw (c .local .ensures) (omega arith, omega arith, omega arith)
 
 with-local-requires : tie.Need-with-local-requires
