@@ -35,9 +35,6 @@ pub const FLAG_WEIGHT: u16 = 256;
 // `requestWeight`: what a request's word has beside its set.
 pub const REQUEST_WEIGHT: u16 = 512;
 
-// The first word whose set is more than a byte.
-pub const REQUESTS_END: u16 = REQUEST_WEIGHT + 256;
-
 pub struct Channels {
     pub items: [u16; WORDS],
     pub lens: [u8; CHANNELS],

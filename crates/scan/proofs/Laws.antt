@@ -2,10 +2,10 @@
 use mathlib.Core.Path.{_≡_, refl, sym, _∙_, ap}
 use mathlib.Core.Bool.{Bool, true, false, _&&_, _||_, not, cond, and-true, and-assoc}
 use mathlib.Core.List.{List, [], _∷_, map}
-use Prim.Native.Nat.{ℕ, zero, suc, _+_, _*_, _^_, _<_, _≤_, min}
+use Prim.Native.Nat.{ℕ, zero, suc, _+_, _-_, _*_, _^_, _<_, _≤_, min}
 use native.Mathlib.Numerals.{add-one}
 use native.Mathlib.Omega.{arith}
-use borrow.Author.Tests.{lt-ltb}
+use borrow.Author.Tests.{lt-ltb, le-ltb, ltb-true, ltb-false}
 use lib.Dec.{leb, ltb}
 use lib.ListN.{getD, take}
 use lib.Pow.{pow-pos}
@@ -22,6 +22,14 @@ use Rattle.scan.specs.InnerAt.{soundAt, carsAt, soundFrom, carsFrom}
 
 nobody-within : (count : ℕ) → ltb 0 (2 ^ count) ≡ true
 nobody-within count = lt-ltb 0 (2 ^ count) (pow-pos count)
+
+-- The word of a set of zones of the site stands below the limit, and no other set's does.
+pub below-limit : (count word : ℕ) → 512 ≤ word → ltb word (512 + 2 ^ count) ≡ within (word - 512) count
+below-limit count word h = go (ltb (word - 512) (2 ^ count)) refl
+  where
+    go : (b : Bool) → within (word - 512) count ≡ b → ltb word (512 + 2 ^ count) ≡ b
+    go true e = let d = ltb-true (word - 512) (2 ^ count) e in lt-ltb word (512 + 2 ^ count) (omega arith)
+    go false e = let d = ltb-false (word - 512) (2 ^ count) e in le-ltb word (512 + 2 ^ count) (omega arith)
 
 sets-more : (count : ℕ) (ws : List ℕ) (p : ℕ)
     → setsWithin count (map itemOf (take (suc p) ws)) ≡ setsWithin count (map itemOf (take p ws)) && within (setIn (itemOf (getD ws p 0))) count

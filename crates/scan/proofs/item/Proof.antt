@@ -1,41 +1,43 @@
--- `scan::item` meets its contract: the three ranges of an item's word.
-use mathlib.Core.Path.{refl, sym}
-use Prim.Native.Nat.{_^_, _-_}
+-- `scan::item` meets its contract: a set of zones of the site, and every message, has a word below the limit.
+use mathlib.Core.Path.{_≡_, refl, sym}
+use Prim.Native.Nat.{_^_, _+_, _-_, _*_, _%_, _≤_}
 use native.Mathlib.Omega.{arith}
 use borrow.Author.Tests.{lt-ltb, le-ltb}
+use lib.Dec.{ltb}
 use lib.Pow.{pow-pos, pow-mono}
 use Rattle.channel.specs.Words.{itemOf}
+use Rattle.scan.proofs.Laws.{below-limit}
 use borrow.Author.Needs.{needs}
 use Rattle.scan.proofs.item.Statement.{statement}
 use Rattle.scan.proofs.item.Tie as tie
 
-cast-t6 : tie.Need-cast-t6
-cast-t6 c = search needs
+-- A site's sets are bytes.
+small : (c : tie.Start) → 2 ^ c .args .count ≤ 256
+small c = pow-mono {i = c .args .count} {j = 8} (c .pre)
+
+limit-is : (c : tie.Start) → 1 * 2 ^ c .args .count % 65536 ≡ 2 ^ c .args .count
+limit-is c = let h = small c in omega arith
+
+shl-limit : tie.Need-shl-limit
+shl-limit c = search needs
+
+add-limit : tie.Need-add-limit
+add-limit c = let h = small c in omega (arith, limit-is c)
+
+cast-t9 : tie.Need-cast-t9
+cast-t9 c = search needs
 
 returns : tie.Need-returns
 unfolding itemOf
 returns c =
-    rw (lt-ltb _ _ (c .if1 .taken)) (sym (lt-ltb 0 (2 ^ c .before .args .count) (pow-pos (c .before .args .count))), refl, omega arith)
+    let a = c .before .args in
+    rw (lt-ltb _ _ (c .if1 .taken), lt-ltb (a .word) (512 + 1 * 2 ^ a .count % 65536) (omega arith)) (sym (lt-ltb 0 (2 ^ a .count) (pow-pos (a .count))), refl, omega arith)
 
 returns-2 : tie.Need-returns-2
 unfolding itemOf
 returns-2 c =
-    rw (le-ltb _ _ (c .before .if1 .left)) (
-      sym (le-ltb (c .before .before .args .word - 512) (2 ^ c .before .before .args .count) (omega (arith, pow-mono {i = c .before .before .args .count} {j = 8} (c .before .before .pre)))),
-      refl,
-      omega arith,
-    )
-
-cast-is-within : tie.Need-cast-is-within
-cast-is-within c = search needs
-
-is-within-requires : tie.Need-is-within-requires
-is-within-requires c κs = search needs
-
-returns-3 : tie.Need-returns-3
-unfolding itemOf
-returns-3 c = rw (le-ltb _ _ (c .before .before .if1 .left)) (c .is-within .ensures, refl, omega arith)
+    let a = c .before .args in
+    rw (le-ltb _ _ (c .if1 .left), limit-is (c .before)) (below-limit (a .count) (a .word) (c .if1 .left), refl, omega arith)
 
 pub item-spec : {M : Type 1} → statement M
-item-spec =
-    tie.close (tie.spec cast-t6 returns returns-2 cast-is-within is-within-requires returns-3)
+item-spec = tie.close (tie.spec shl-limit add-limit cast-t9 returns returns-2)
