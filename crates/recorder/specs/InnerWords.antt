@@ -50,7 +50,7 @@ recordedBytes h ws ns = wordsBytes (recordedWords h ws ns)
 -- What holds of a run that question 1 passes, so that its fields fit the words.
 pub record Fitting (h : Head) (ws ns : List ℕ) : Type 0 where
   pub fewest : 1 ≤ countOf h
-  pub most : countOf h ≤ 8
+  pub most : countOf h ≤ mostZones
   pub events : (i : ℕ) → i < countOf h → eventsOf (zoneAt h i .checkpoint) ≤ mostRecords
   pub records : length ws ≤ mostRecords
   pub numbers : length ns ≡ length ws

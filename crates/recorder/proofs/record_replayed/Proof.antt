@@ -17,15 +17,18 @@ use Rattle.run.specs.declared.SiteCall.the-variants.{Start}
 use Rattle.run.specs.Calls.{answer}
 use Rattle.recorder.proofs.record_replayed.Tie as tie
 
--- Landmarks: 12 answered yes; 13 answered yes; the records are lent; their own-event numbers are lent.
+-- Landmarks: 12 answered yes; the items are read; 13 answered yes; the records are lent; their own-event numbers are lent.
 abbrev start : tie.After-has-started → tie.Start
 start c = c .before .before .before .before
 
 abbrev asked : tie.Else1 → tie.After-has-started
 asked c = c .before
 
+abbrev parted : tie.After-items → tie.Else1
+parted c = c .before .before .before .before
+
 abbrev searched : tie.After-no-requests → tie.Else1
-searched c = c .before .before .before .before .before .before .before .before
+searched c = parted (c .before .before .before .before)
 
 abbrev cut : tie.After-journal2 → tie.Else2
 cut c = c .before .before .before .before

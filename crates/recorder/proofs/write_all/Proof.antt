@@ -16,9 +16,12 @@ use Rattle.recorder.proofs.write_all.Statement.{statement}
 use Rattle.run.specs.declared.SiteCall.the-variants.{Start}
 use Rattle.recorder.proofs.write_all.Tie as tie
 
--- Landmarks: the header is made; it is written; the zones are written; the items are written.
+-- Landmarks: the opening is read; the header is made; it is written; the zones are written; the items are written.
+abbrev named : tie.After-opening → tie.Start
+named c = c .before .before .before .before
+
 abbrev start : tie.After-header → tie.Start
-start c = c .before .before .before .before .before .before
+start c = named (c .before .before)
 
 abbrev headed : tie.After-write-word → tie.After-header
 headed c = c .before .before

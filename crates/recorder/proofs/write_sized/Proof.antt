@@ -15,9 +15,12 @@ use Rattle.run.specs.declared.SiteCall.the-variants.{Start}
 use Rattle.rules.proofs.AskLaws.{numbers}
 use Rattle.recorder.proofs.write_sized.Tie as tie
 
--- Landmarks: the events shown are found; the records are counted; the items are numbered.
+-- Landmarks: the opening is read; the events shown are found; the records are counted; the items are numbered.
+abbrev named : tie.After-opening → tie.Start
+named c = c .before .before .before .before
+
 abbrev start : tie.After-shown-events → tie.Start
-start c = c .before .before .before .before .before .before
+start c = named (c .before .before)
 
 abbrev events : tie.After-number → tie.After-shown-events
 events c = c .before .before .before

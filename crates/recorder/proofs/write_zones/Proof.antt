@@ -27,12 +27,15 @@ Inv-loop out₀ head count stocks at₀ i₀ out at i =
 abbrev μ-loop : tie.MeasureT-loop
 μ-loop out₀ head count stocks at₀ i₀ out at i = count - i
 
--- Landmarks: the round begins; the fields are read; the next zone is found; its words are written.
+-- Landmarks: the round begins; the fields are read, the terms first; the next zone is found; its words are written.
 abbrev read : tie.At-loop Inv-loop μ-loop → tie.After-stocks Inv-loop μ-loop
 read c = c .before
 
+abbrev named : tie.After-terms Inv-loop μ-loop → tie.Start Inv-loop μ-loop
+named c = c .before .before .before
+
 abbrev start : tie.After-stocks Inv-loop μ-loop → tie.Start Inv-loop μ-loop
-start c = c .before .before .before .before .before
+start c = named (c .before .before)
 
 abbrev found : tie.After-write-zone-arg Inv-loop μ-loop → tie.After-zone-at Inv-loop μ-loop
 found c = c .before
