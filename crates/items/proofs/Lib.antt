@@ -1,2 +1,4 @@
 pub mod Counting
+pub mod Places
+pub mod Walking
 pub mod Writing

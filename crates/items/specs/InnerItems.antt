@@ -2,7 +2,7 @@
 use mathlib.Core.Path.{_≡_}
 use mathlib.Core.Bool.{Bool, cond, _&&_}
 use mathlib.Core.List.{List, [], _∷_}
-use Prim.Native.Nat.{ℕ, suc, _+_, _-_, _/_, _%_, _<_}
+use Prim.Native.Nat.{ℕ, suc, _+_, _-_, _/_, _%_, _<_, _≤_}
 use lib.Dec.{ltb, eqb}
 use lib.ListN.{length, getD}
 use Rattle.rules.specs.Below.{sumBelow, listBelow}
@@ -14,6 +14,10 @@ use Rattle.channel.specs.Channels.{isChannel}
 -- The index of the zone that acts by a record, of the high byte of its word.
 abbrev pub ownerOf : ℕ → ℕ
 ownerOf high = cond (ltb high 64) (high / 8) (high % 8)
+
+-- Is the record a message inside the sender's events shown, by the high byte of its word?
+unfoldable pub isSent : ℕ → ℕ → List ℕ → Bool
+isSent high number shown = ltb high 64 && isIn number (getD shown (high / 8) 0)
 
 -- Has the record's word this high byte, and is its event inside those shown for the zone that acts by it?
 abbrev pub countsAt : ℕ → List ℕ → ℕ → ℕ → Bool
@@ -33,12 +37,19 @@ pub record Counted (seen shown ws ns : List ℕ) : Type 0 where
   pub sent : (k : ℕ) → k < 64 → getD seen k 0 ≡ length (sentWords k shown ws ns)
   pub taken : (k : ℕ) → k < 64 → getD seen (64 + k) 0 ≡ takenCount k shown ws ns
 
--- The number of items at place k by these numbers, and of all items.
+-- The number of items at place k by these numbers, at the places before it, and at all.
 unfoldable pub numberAt : ℕ → List ℕ → ℕ → ℕ
 numberAt count seen k = cond (isChannel count k) (getD seen k 0 - getD seen (64 + k) 0) 0
 
+unfoldable pub startAt : ℕ → List ℕ → ℕ → ℕ
+startAt count seen k = sumBelow k (numberAt count seen)
+
 unfoldable pub itemNumber : ℕ → List ℕ → ℕ
-itemNumber count seen = sumBelow 64 (numberAt count seen)
+itemNumber count seen = startAt count seen 64
+
+-- A list has, for each place up to n, the number of items at the places before it.
+abbrev pub Starts : ℕ → List ℕ → ℕ → List ℕ → Type 0
+Starts n starts count seen = (k : ℕ) → k ≤ n → getD starts k 0 ≡ startAt count seen k
 
 -- The words of the items at place k; none where the site has no channel there. Then those of all places, in order.
 unfoldable pub wordsAt : ℕ → List ℕ → List ℕ → List ℕ → ℕ → List ℕ

@@ -2,9 +2,9 @@
 ghost use mathlib.Core.Path.{_≡_};
 ghost use mathlib.Core.Bool.{cond};
 ghost use Prim.Native.Nat.{_-_, _*_, _/_, _<_, _≤_};
-ghost use lib.ListN.{length, getD, drop};
-ghost use Rattle.recording.specs.InnerRecords.{isIn, sentWords};
-ghost use Rattle.items.specs.InnerItems.{ownerOf, counts, Counted, numberAt, itemNumber, wordsAt, allWords};
+ghost use lib.ListN.{length, getD};
+ghost use Rattle.recording.specs.InnerRecords.{isIn};
+ghost use Rattle.items.specs.InnerItems.{ownerOf, isSent, counts, Counted, numberAt, itemNumber, Starts, allWords};
 ghost use Rattle.words.specs.InnerWrote.{Wrote};
 
 // 1 for an event that is inside the events shown, by its number; else 0.
@@ -26,9 +26,9 @@ fn high_byte(word: u16) -> usize
 
 // The events shown for the zone that acts, by the high byte of a record's word: the sender's for a message, the receiver's for a receipt.
 // A high byte is below 256.
-fn shown_for(shown: [u16; 8], high: usize) -> u16
+fn shown_for(shown: &[u16; 8], high: usize) -> u16
     requires { ⌜ high < 256 ⌝ }
-    ensures { λ r. ⌜ r ≡ getD shown (ownerOf high) 0 ⌝ }
+    ensures { λ r. ⌜ r ≡ getD (now (shown .entry)) (ownerOf high) 0 ⌝ }
 {
     if high < 64 {
         return shown[high / 8];
@@ -48,7 +48,7 @@ pub fn counted(words: &[u16], owns: &[u16], shown: [u16; 8]) -> [u16; 256]
         let word = words[i];
         let number = owns[i];
         let high = high_byte(word);
-        let limit = shown_for(shown, high);
+        let limit = shown_for(&shown, high);
         let one = inside(number, limit);
         seen[high] = seen[high] + one;
     }
@@ -78,85 +78,42 @@ fn number_at(count: u8, seen: &[u16; 256], k: usize) -> usize
     less(sent, taken)
 }
 
+// The number of the items before those of each place, which is where its words begin; behind the last place, the number of all.
+fn starts(count: u8, seen: &[u16; 256]) -> [usize; 65]
+    ensures { λ r. ⌜ Starts 64 r count (now (seen .entry)) ⌝ }
+{
+    let mut starts = [0usize; 65];
+    let mut k = 0;
+    while k < 64 {
+        let n = number_at(count, seen, k);
+        starts[k + 1] = starts[k] + n;
+        k += 1;
+    }
+    starts
+}
+
 // The number of items on all channels of the site.
 pub fn number(count: u8, seen: &[u16; 256]) -> usize
     ensures { λ r. ⌜ r ≡ itemNumber count (now (seen .entry)) ⌝ }
 {
-    let mut sum = 0;
-    let mut k = 0;
-    while k < 64 {
-        let here = number_at(count, seen, k);
-        sum += here;
-        k += 1;
-    }
-    sum
+    let starts = starts(count, seen);
+    starts[64]
 }
 
-// The words of the messages that were sent on the channel at place k inside the sender's events, but for the first `skip`, from the front
-// of the lent bytes on. Each record has its own-event number, and the caller has seen that there is room.
-fn write_channel(
-    out: &mut [u8],
-    words: &[u16],
-    owns: &[u16],
-    shown: [u16; 8],
-    k: usize,
-    skip: u16,
-) -> usize
-    requires { ⌜
-        (k < 64) × (length (now owns) ≡ length (now words))
-        × (2 * length (drop skip (sentWords k shown (now words) (now owns))) ≤ length (now out))
-        ⌝ }
-    ensures { λ r. ⌜
-        Wrote (drop skip (sentWords k shown (now (words .entry)) (now (owns .entry)))) (now (out .entry)) (now (out .exit)) r
-        ⌝ }
+// Whether a record is a message inside the sender's events shown, by the high byte of its word and its own-event number.
+fn is_sent(high: usize, number: u16, shown: &[u16; 8]) -> bool
+    ensures { λ r. ⌜ r ≡ isSent high number (now (shown .entry)) ⌝ }
 {
-    let mut left = skip;
-    let mut at = 0;
-    for i in 0..words.len() {
-        let word = words[i];
-        if high_byte(word) != k {
-            continue;
-        }
-        if inside(owns[i], shown[k / 8]) == 0 {
-            continue;
-        }
-        if left != 0 {
-            left -= 1;
-            continue;
-        }
-        words::write_word(&mut out[at..], word);
-        at += 2;
+    if 64 <= high {
+        return false;
     }
-    at
-}
-
-// The words of the items on the channel at place k, from the front of the lent bytes on; none where the site has no channel there. What
-// `counted` counted of these records is `seen`, and the caller has seen that there is room.
-fn write_at(
-    out: &mut [u8],
-    count: u8,
-    words: &[u16],
-    owns: &[u16],
-    shown: [u16; 8],
-    seen: &[u16; 256],
-    k: usize,
-) -> usize
-    requires { ⌜
-        (k < 64) × (length (now owns) ≡ length (now words)) × Counted (now seen) shown (now words) (now owns)
-        × (2 * length (wordsAt count shown (now words) (now owns) k) ≤ length (now out))
-        ⌝ }
-    ensures { λ r. ⌜
-        Wrote (wordsAt count shown (now (words .entry)) (now (owns .entry)) k) (now (out .entry)) (now (out .exit)) r
-        ⌝ }
-{
-    if number_at(count, seen, k) == 0 {
-        return 0;
-    }
-    write_channel(out, words, owns, shown, k, seen[64 + k])
+    inside(number, shown[high / 8]) != 0
 }
 
 // The words of all items, by sender, then receiver, then order sent, from the front of the lent bytes on. What `counted` counted of these
-// records is `seen`, and question 14 has seen that there is room.
+// records is `seen`, and question 14 has seen that there is room. One walk over the records does it: `left` has the number of the messages
+// that are still to come at each place, and the next of them stands as many words before the end of the place's items. Where that is before
+// their begin, it was received, or the site has no channel there, and it is passed over.
 pub fn write(
     out: &mut [u8],
     count: u8,
@@ -173,12 +130,21 @@ pub fn write(
         Wrote (allWords count shown (now (words .entry)) (now (owns .entry))) (now (out .entry)) (now (out .exit)) r
         ⌝ }
 {
-    let mut at = 0;
-    let mut k = 0;
-    while k < 64 {
-        let n = write_at(&mut out[at..], count, words, owns, shown, seen, k);
-        at += n;
-        k += 1;
+    let starts = starts(count, seen);
+    let mut left = *seen;
+    for i in 0..words.len() {
+        let word = words[i];
+        let k = high_byte(word);
+        if !is_sent(k, owns[i], &shown) {
+            continue;
+        }
+        let rest = left[k] as usize;
+        left[k] -= 1;
+        let end = starts[k + 1];
+        if end < starts[k] + rest {
+            continue;
+        }
+        words::write_word(&mut out[2 * (end - rest)..], word);
     }
-    at
+    2 * starts[64]
 }

@@ -22,7 +22,7 @@ abbrev top : tie.After-high-byte Inv-loop μ-loop → tie.At-loop Inv-loop μ-lo
 top c = c .before .before .before .before
 
 abbrev split : tie.After-inside Inv-loop μ-loop → tie.After-high-byte Inv-loop μ-loop
-split c = c .before .before
+split c = c .before .before .before
 
 loop-holds : tie.Need-loop-holds Inv-loop μ-loop
 loop-holds c = (refl, omega arith, seen-none _ _ _)
@@ -76,7 +76,7 @@ loop-again c =
     let a = start (top (split c)) .args in (
       refl,
       omega arith,
-      seen-more (at .seen) (a .shown) (a .words .now) (a .owns .now) (at .i) (h .result) (c .before .shown-for .result) (c .inside .result)
+      seen-more (at .seen) (a .t3) (a .words .now) (a .owns .now) (at .i) (h .result) (c .before .shown-for .result) (c .inside .result)
           (at .inv .2) (omega arith) (omega arith) (h .ensures .0) (h .ensures .1) (c .before .shown-for .ensures) (c .inside .ensures .0),
     )
 
@@ -84,7 +84,7 @@ returns : tie.Need-returns Inv-loop μ-loop
 returns c =
     let at = c .before .loop in
     let a = start (c .before) .args in
-    seen-all (at .seen) (a .shown) (a .words .now) (a .owns .now) (at .i) (omega arith) (at .inv .2)
+    seen-all (at .seen) (a .t3) (a .words .now) (a .owns .now) (at .i) (omega arith) (at .inv .2)
 
 pub counted-spec : {M : Type 1} → statement M
 counted-spec =
