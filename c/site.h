@@ -77,7 +77,7 @@ typedef struct {
 typedef struct {
     cut_head head;
     uint8_t refusal;
-} cut_turn;
+} cut_head_answer;
 
 /* What reading answers. position: of the record that was refused with 18 or 19, counted from 0; else 0. */
 typedef struct {
@@ -95,15 +95,15 @@ typedef struct {
 } cut_written;
 
 _Static_assert(sizeof(cut_local) == 10 && sizeof(cut_head) == 100 && sizeof(cut_run) == 4212, "the layout that the library has");
-_Static_assert(sizeof(cut_answer) == 4214 && sizeof(cut_turn) == 102, "the layout that the library has");
+_Static_assert(sizeof(cut_answer) == 4214 && sizeof(cut_head_answer) == 102, "the layout that the library has");
 _Static_assert(sizeof(cut_reading) == 4232 && sizeof(cut_written) == 24, "the layout that the library has");
 
 /* The library's functions. Those on a run take its head by value and its three arrays by pointer; the calls below them, on a cut_run, are
  * what a desk uses. */
 cut_answer site_open(uint8_t count, const uint16_t *stocks, size_t n);
-cut_turn site_send(cut_head head, uint16_t *items, uint8_t *lens, uint16_t *journal, uint8_t from, uint8_t to, uint8_t cars);
-cut_turn site_receive(cut_head head, uint16_t *items, uint8_t *lens, uint16_t *journal, uint8_t from, uint8_t to);
-cut_turn site_start(cut_head head, uint16_t *items, uint8_t *lens, uint16_t *journal, uint8_t zone);
+cut_head_answer site_send(cut_head head, uint16_t *items, uint8_t *lens, uint16_t *journal, uint8_t from, uint8_t to, uint8_t cars);
+cut_head_answer site_receive(cut_head head, uint16_t *items, uint8_t *lens, uint16_t *journal, uint8_t from, uint8_t to);
+cut_head_answer site_start(cut_head head, uint16_t *items, uint8_t *lens, uint16_t *journal, uint8_t zone);
 cut_written site_record(cut_head head, const uint16_t *items, const uint8_t *lens, const uint16_t *journal, uint8_t *out, size_t size);
 cut_written journal_write(cut_head head, const uint16_t *items, const uint8_t *lens, const uint16_t *journal, uint8_t *out, size_t size);
 
@@ -129,7 +129,7 @@ static inline uint8_t cut_open(cut_run *run, uint8_t count, const uint16_t *stoc
  * there are 1,000 records; 7 the sender's stock does not cover the cars; 8 the line is full. */
 static inline uint8_t cut_send(cut_run *run, uint8_t from, uint8_t to, uint8_t cars)
 {
-    cut_turn t = site_send(run->head, run->items, run->lens, run->journal, from, to, cars);
+    cut_head_answer t = site_send(run->head, run->items, run->lens, run->journal, from, to, cars);
     if (t.refusal == 0)
         run->head = t.head;
     return t.refusal;
@@ -139,7 +139,7 @@ static inline uint8_t cut_send(cut_run *run, uint8_t from, uint8_t to, uint8_t c
  * is full. */
 static inline uint8_t cut_receive(cut_run *run, uint8_t from, uint8_t to)
 {
-    cut_turn t = site_receive(run->head, run->items, run->lens, run->journal, from, to);
+    cut_head_answer t = site_receive(run->head, run->items, run->lens, run->journal, from, to);
     if (t.refusal == 0)
         run->head = t.head;
     return t.refusal;
@@ -148,7 +148,7 @@ static inline uint8_t cut_receive(cut_run *run, uint8_t from, uint8_t to)
 /* Starts the recording at a zone. Refused with: 1; 5; 6; 11 a recording has been started; 10. */
 static inline uint8_t cut_start(cut_run *run, uint8_t zone)
 {
-    cut_turn t = site_start(run->head, run->items, run->lens, run->journal, zone);
+    cut_head_answer t = site_start(run->head, run->items, run->lens, run->journal, zone);
     if (t.refusal == 0)
         run->head = t.head;
     return t.refusal;

@@ -1,4 +1,4 @@
 pub mod Laws
-pub mod Places
+pub mod Indices
 pub mod Rows
 pub mod View

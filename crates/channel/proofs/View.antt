@@ -15,7 +15,7 @@ use Rattle.rules.specs.Change.{on, join}
 use Rattle.rules.specs.Sets.{has, members, membersBelow}
 use Rattle.rules.specs.Site.{Item, message, request}
 use Rattle.channel.specs.Words.{itemOf, messageWord, requestWord}
-use Rattle.channel.specs.Channels.{channelsAs, Whole, Clean, place, lenOf, row, wordsOn, itemsOn, isFree, pushed, firstOf, movedDown, popped, freeBelow, allFree, fullAmong, firstFull, sentEach, requestedAll}
+use Rattle.channel.specs.Channels.{channelsAs, Whole, Clean, channelIndex, lenOf, row, wordsOn, itemsOn, isFree, pushed, firstOf, movedDown, popped, freeBelow, allFree, fullAmong, firstFull, sentEach, requestedAll}
 use Rattle.channel.specs.declared.Channels.{Channels}
 use Rattle.channel.proofs.Rows.{row-length, row-at, row-set, row-other, row-popped, row-popped-other, down-length}
 
@@ -56,18 +56,18 @@ pub item-injective : (v w : ℕ) → itemOf v ≡ itemOf w → v ≡ w
 item-injective v w e = sym (word-item v) ∙ ap wordOf e ∙ word-item w
 
 -- The places of two channels are the same where both zones are.
-pub place-eq : (i j a b : ℕ) → j < 8 → b < 8 → eqb (place i j) (place a b) ≡ eqb i a && eqb j b
-place-eq i j a b hj hb = go (eqb i a) refl (eqb j b) refl
+pub channel-index-eq : (i j a b : ℕ) → j < 8 → b < 8 → eqb (channelIndex i j) (channelIndex a b) ≡ eqb i a && eqb j b
+channel-index-eq i j a b hj hb = go (eqb i a) refl (eqb j b) refl
   where
-    go : (p : Bool) → eqb i a ≡ p → (q : Bool) → eqb j b ≡ q → eqb (place i j) (place a b) ≡ p && q
+    go : (p : Bool) → eqb i a ≡ p → (q : Bool) → eqb j b ≡ q → eqb (channelIndex i j) (channelIndex a b) ≡ p && q
     go true e true f =
         let g = eqb-true i a e in
         let h = eqb-true j b f in
-        eq-eqb (place i j) (place a b) (omega arith)
+        eq-eqb (channelIndex i j) (channelIndex a b) (omega arith)
     go true e false f =
         let g = eqb-true i a e in
-        ne-eqb (place i j) (place a b) (λ (h : i * 8 + j ≡ a * 8 + b). eqb-false j b f (omega arith))
-    go false e q f = ne-eqb (place i j) (place a b) (λ (h : i * 8 + j ≡ a * 8 + b). eqb-false i a e (omega arith))
+        ne-eqb (channelIndex i j) (channelIndex a b) (λ (h : i * 8 + j ≡ a * 8 + b). eqb-false j b f (omega arith))
+    go false e q f = ne-eqb (channelIndex i j) (channelIndex a b) (λ (h : i * 8 + j ≡ a * 8 + b). eqb-false i a e (omega arith))
 
 -- One item more at the end of channel k, which has a free place.
 
@@ -294,39 +294,39 @@ module _ (l m : Channels) (wl : Whole l) (wm : Whole m) (cl : Clean l) (cm : Cle
 -- The same over all channels, by their zones: a change at the channel from a to b.
 
 module _ {A : Type 0} (old new : ℕ → A) (change : A → A) (a b : ℕ) (hb : b < 8) where
-  by-zones : new (place a b) ≡ change (old (place a b)) → ((k : ℕ) → k ≢ place a b → new k ≡ old k)
-      → (i j : ℕ) → j < 8 → new (place i j) ≡ on (eqb i a && eqb j b) change (old (place i j))
-  by-zones same other i j hj = rw (← place-eq i j a b hj hb) (go (eqb (place i j) (place a b)) refl)
+  by-zones : new (channelIndex a b) ≡ change (old (channelIndex a b)) → ((k : ℕ) → k ≢ channelIndex a b → new k ≡ old k)
+      → (i j : ℕ) → j < 8 → new (channelIndex i j) ≡ on (eqb i a && eqb j b) change (old (channelIndex i j))
+  by-zones same other i j hj = rw (← channel-index-eq i j a b hj hb) (go (eqb (channelIndex i j) (channelIndex a b)) refl)
     where
-      go : (t : Bool) → eqb (place i j) (place a b) ≡ t → new (place i j) ≡ on t change (old (place i j))
-      go true e = rw (eqb-true (place i j) (place a b) e) same
-      go false e = other (place i j) (eqb-false (place i j) (place a b) e)
+      go : (t : Bool) → eqb (channelIndex i j) (channelIndex a b) ≡ t → new (channelIndex i j) ≡ on t change (old (channelIndex i j))
+      go true e = rw (eqb-true (channelIndex i j) (channelIndex a b) e) same
+      go false e = other (channelIndex i j) (eqb-false (channelIndex i j) (channelIndex a b) e)
 
 module _ (l : Channels) (a b : ℕ) (w : Whole l) (ha : a < 8) (hb : b < 8) where
-  pub items-pushed : (word : ℕ) → isFree l (place a b) ≡ true → (i j : ℕ) → j < 8
-      → itemsOn (pushed l (place a b) word) (place i j) ≡ on (eqb i a && eqb j b) (join (itemOf word)) (itemsOn l (place i j))
+  pub items-pushed : (word : ℕ) → isFree l (channelIndex a b) ≡ true → (i j : ℕ) → j < 8
+      → itemsOn (pushed l (channelIndex a b) word) (channelIndex i j) ≡ on (eqb i a && eqb j b) (join (itemOf word)) (itemsOn l (channelIndex i j))
   items-pushed word f =
-      let k = place a b in
+      let k = channelIndex a b in
       by-zones (itemsOn l) (itemsOn (pushed l k word)) (join (itemOf word)) a b hb (items-push-same l k word w (omega arith) f)
       (λ j d. items-push-other l k j word d)
 
-  pub lens-pushed : (word : ℕ) → isFree l (place a b) ≡ true → (i j : ℕ) → j < 8
-      → lenOf (pushed l (place a b) word) (place i j) ≡ on (eqb i a && eqb j b) (λ n. n + 1) (lenOf l (place i j))
+  pub lens-pushed : (word : ℕ) → isFree l (channelIndex a b) ≡ true → (i j : ℕ) → j < 8
+      → lenOf (pushed l (channelIndex a b) word) (channelIndex i j) ≡ on (eqb i a && eqb j b) (λ n. n + 1) (lenOf l (channelIndex i j))
   lens-pushed word f =
-      let k = place a b in
+      let k = channelIndex a b in
       by-zones (lenOf l) (lenOf (pushed l k word)) (λ n. n + 1) a b hb (len-push-same l k word w (omega arith) f)
       (λ j d. len-push-other l k j word d)
 
-  pub items-popped : 0 < lenOf l (place a b) → lenOf l (place a b) ≤ 16 → (i j : ℕ) → j < 8
-      → itemsOn (popped l (place a b)) (place i j) ≡ on (eqb i a && eqb j b) tail (itemsOn l (place i j))
+  pub items-popped : 0 < lenOf l (channelIndex a b) → lenOf l (channelIndex a b) ≤ 16 → (i j : ℕ) → j < 8
+      → itemsOn (popped l (channelIndex a b)) (channelIndex i j) ≡ on (eqb i a && eqb j b) tail (itemsOn l (channelIndex i j))
   items-popped f g =
-      let k = place a b in
+      let k = channelIndex a b in
       by-zones (itemsOn l) (itemsOn (popped l k)) tail a b hb (items-pop-same l k w (omega arith) f g) (λ j d. items-pop-other l k j d)
 
   pub lens-popped : (i j : ℕ) → j < 8
-      → lenOf (popped l (place a b)) (place i j) ≡ on (eqb i a && eqb j b) (λ n. n - 1) (lenOf l (place i j))
+      → lenOf (popped l (channelIndex a b)) (channelIndex i j) ≡ on (eqb i a && eqb j b) (λ n. n - 1) (lenOf l (channelIndex i j))
   lens-popped =
-      let k = place a b in
+      let k = channelIndex a b in
       by-zones (lenOf l) (lenOf (popped l k)) (λ n. n - 1) a b hb (len-pop-same l k w (omega arith)) (λ j d. len-pop-other l k j d)
 
 -- The search answers none exactly when all have a free place.
@@ -334,10 +334,10 @@ module _ (l : Channels) (a b : ℕ) (w : Whole l) (ha : a < 8) (hb : b < 8) wher
 none-append : (xs ys : List ℕ) (l : Channels) (from : ℕ)
     → eqb (fullAmong (xs ++ ys) l from) 0 ≡ eqb (fullAmong xs l from) 0 && eqb (fullAmong ys l from) 0
 none-append [] ys l from = refl
-none-append (k ∷ xs) ys l from = go (none-append xs ys l from) (isFree l (place from k)) refl
+none-append (k ∷ xs) ys l from = go (none-append xs ys l from) (isFree l (channelIndex from k)) refl
   where
     go : eqb (fullAmong (xs ++ ys) l from) 0 ≡ eqb (fullAmong xs l from) 0 && eqb (fullAmong ys l from) 0
-        → (t : Bool) → isFree l (place from k) ≡ t
+        → (t : Bool) → isFree l (channelIndex from k) ≡ t
         → eqb (fullAmong (k ∷ (xs ++ ys)) l from) 0 ≡ eqb (fullAmong (k ∷ xs) l from) 0 && eqb (fullAmong ys l from) 0
     go more true e = rw (e) more
     go more false e = rw (e, ne-eqb (k + 1) 0 (λ (f : k + 1 ≡ 0). omega arith))
@@ -346,9 +346,9 @@ none-below : (n : ℕ) (l : Channels) (from to : ℕ) → eqb (fullAmong (member
 none-below zero l from to = refl
 none-below (suc n) l from to =
     none-append (membersBelow n to) _ l from ∙ rw (none-below n l from to)
-    (ap (λ (t : Bool). freeBelow n l from to && t) (go (has to n) (isFree l (place from n)) refl))
+    (ap (λ (t : Bool). freeBelow n l from to && t) (go (has to n) (isFree l (channelIndex from n)) refl))
   where
-    go : (h t : Bool) → isFree l (place from n) ≡ t → eqb (fullAmong (cond h (n ∷ []) []) l from) 0 ≡ not h || t
+    go : (h t : Bool) → isFree l (channelIndex from n) ≡ t → eqb (fullAmong (cond h (n ∷ []) []) l from) 0 ≡ not h || t
     go true true e = rw (e)
     go true false e = rw (e) (ne-eqb (n + 1) 0 (λ (f : n + 1 ≡ 0). omega arith))
     go false t e = refl
@@ -362,7 +362,7 @@ all-free-none l from to = none-below 8 l from to
 sent-whole : (ks : List ℕ) (l : Channels) (from word : ℕ) → Whole l → Whole (sentEach ks l from word)
 sent-whole [] l from word w = w
 sent-whole (k ∷ ks) l from word w =
-    sent-whole ks (pushed l (place from k) word) from word (push-whole l (place from k) word w)
+    sent-whole ks (pushed l (channelIndex from k) word) from word (push-whole l (channelIndex from k) word w)
 
 pub requested-whole : (l : Channels) (from to set : ℕ) → Whole l → Whole (requestedAll l from to set)
 unfolding requestedAll
@@ -371,8 +371,8 @@ requested-whole l from to set w = sent-whole (members to) l from (requestWord se
 sent-clean : (ks : List ℕ) (l : Channels) (from word : ℕ) → Whole l → Clean l → Clean (sentEach ks l from word)
 sent-clean [] l from word w h = h
 sent-clean (k ∷ ks) l from word w h =
-    let m = pushed l (place from k) word in
-    sent-clean ks m from word (push-whole l (place from k) word w) (push-clean l (place from k) word w h)
+    let m = pushed l (channelIndex from k) word in
+    sent-clean ks m from word (push-whole l (channelIndex from k) word w) (push-clean l (channelIndex from k) word w h)
 
 pub requested-clean : (l : Channels) (from to set : ℕ) → Whole l → Clean l → Clean (requestedAll l from to set)
 unfolding requestedAll
@@ -381,7 +381,7 @@ requested-clean l from to set w h = sent-clean (members to) l from (requestWord 
 sent-append : (xs ys : List ℕ) (l : Channels) (from word : ℕ)
     → sentEach (xs ++ ys) l from word ≡ sentEach ys (sentEach xs l from word) from word
 sent-append [] ys l from word = refl
-sent-append (k ∷ xs) ys l from word = sent-append xs ys (pushed l (place from k) word) from word
+sent-append (k ∷ xs) ys l from word = sent-append xs ys (pushed l (channelIndex from k) word) from word
 
 both : (p q : Bool) → p && q ≡ true → (p ≡ true) × (q ≡ true)
 both true q e = (refl, e)
@@ -399,61 +399,61 @@ module _ (l : Channels) (from to word : ℕ) (w : Whole l) where
   abbrev after : ℕ → Channels
   after n = sentEach (membersBelow n to) l from word
 
-  after-in : (n : ℕ) → has to n ≡ true → after (suc n) ≡ pushed (after n) (place from n) word
+  after-in : (n : ℕ) → has to n ≡ true → after (suc n) ≡ pushed (after n) (channelIndex from n) word
   after-in n e = rw (e) (sent-append (membersBelow n to) (n ∷ []) l from word)
 
   after-out : (n : ℕ) → has to n ≡ false → after (suc n) ≡ after n
   after-out n e = rw (e) (sent-append (membersBelow n to) [] l from word)
 
   -- The channels to the zones from n on are as they were.
-  after-above : (n m : ℕ) → n ≤ m → lenOf (after n) (place from m) ≡ lenOf l (place from m)
+  after-above : (n m : ℕ) → n ≤ m → lenOf (after n) (channelIndex from m) ≡ lenOf l (channelIndex from m)
   after-above zero m h = refl
   after-above (suc n) m h = go (after-above n m (omega arith)) (has to n) refl
     where
-      go : lenOf (after n) (place from m) ≡ lenOf l (place from m) → (t : Bool) → has to n ≡ t → lenOf (after (suc n)) (place from m) ≡ lenOf l (place from m)
+      go : lenOf (after n) (channelIndex from m) ≡ lenOf l (channelIndex from m) → (t : Bool) → has to n ≡ t → lenOf (after (suc n)) (channelIndex from m) ≡ lenOf l (channelIndex from m)
       go more true e =
-          ap (λ (c : Channels). lenOf c (place from m)) (after-in n e)
-          ∙ len-push-other (after n) (place from n) (place from m) word (λ (f : from * 8 + m ≡ from * 8 + n). omega arith)
+          ap (λ (c : Channels). lenOf c (channelIndex from m)) (after-in n e)
+          ∙ len-push-other (after n) (channelIndex from n) (channelIndex from m) word (λ (f : from * 8 + m ≡ from * 8 + n). omega arith)
           ∙ more
-      go more false e = ap (λ (c : Channels). lenOf c (place from m)) (after-out n e) ∙ more
+      go more false e = ap (λ (c : Channels). lenOf c (channelIndex from m)) (after-out n e) ∙ more
 
   module _ {A : Type 0} (view : Channels → ℕ → A) (change : A → A)
-      (law : (c : Channels) (b : ℕ) → Whole c → b < 8 → isFree c (place from b) ≡ true → (i j : ℕ) → j < 8
-      → view (pushed c (place from b) word) (place i j) ≡ on (eqb i from && eqb j b) change (view c (place i j))) where
+      (law : (c : Channels) (b : ℕ) → Whole c → b < 8 → isFree c (channelIndex from b) ≡ true → (i j : ℕ) → j < 8
+      → view (pushed c (channelIndex from b) word) (channelIndex i j) ≡ on (eqb i from && eqb j b) change (view c (channelIndex i j))) where
     after-view : (n : ℕ) → n ≤ 8 → freeBelow n l from to ≡ true → (i j : ℕ) → j < 8
-        → view (after n) (place i j) ≡ on (eqb i from && (ltb j n && has to j)) change (view l (place i j))
+        → view (after n) (channelIndex i j) ≡ on (eqb i from && (ltb j n && has to j)) change (view l (channelIndex i j))
     after-view zero h f i j hj = rw (le-ltb j 0 (omega arith), and-false (eqb i from))
     after-view (suc n) h f i j hj = go (after-view n (omega arith) (b .0) i j hj) (has to n) refl (eqb j n) refl
       where
-        b : (freeBelow n l from to ≡ true) × (not (has to n) || isFree l (place from n) ≡ true)
-        b = both (freeBelow n l from to) (not (has to n) || isFree l (place from n)) f
+        b : (freeBelow n l from to ≡ true) × (not (has to n) || isFree l (channelIndex from n) ≡ true)
+        b = both (freeBelow n l from to) (not (has to n) || isFree l (channelIndex from n)) f
 
-        free : has to n ≡ true → isFree (after n) (place from n) ≡ true
+        free : has to n ≡ true → isFree (after n) (channelIndex from n) ≡ true
         free e = ap (λ (m : ℕ). ltb m 16) (after-above n n (omega arith)) ∙ (rw (e) at (b .1))
 
-        go : view (after n) (place i j) ≡ on (eqb i from && (ltb j n && has to j)) change (view l (place i j))
+        go : view (after n) (channelIndex i j) ≡ on (eqb i from && (ltb j n && has to j)) change (view l (channelIndex i j))
             → (t : Bool) → has to n ≡ t → (s : Bool) → eqb j n ≡ s
-            → view (after (suc n)) (place i j) ≡ on (eqb i from && (ltb j (suc n) && has to j)) change (view l (place i j))
+            → view (after (suc n)) (channelIndex i j) ≡ on (eqb i from && (ltb j (suc n) && has to j)) change (view l (channelIndex i j))
         go more true e true g =
             let d = eqb-true j n g in
-            let kept : view (after n) (place i j) ≡ view l (place i j) = more ∙ rw (le-ltb j n (omega arith), and-false (eqb i from)) in
-            ap (λ (c : Channels). view c (place i j)) (after-in n e)
+            let kept : view (after n) (channelIndex i j) ≡ view l (channelIndex i j) = more ∙ rw (le-ltb j n (omega arith), and-false (eqb i from)) in
+            ap (λ (c : Channels). view c (channelIndex i j)) (after-in n e)
             ∙ law (after n) n (sent-whole (membersBelow n to) l from word w) (omega arith) (free e) i j hj
             ∙ rw (g, kept, lt-ltb j (suc n) (omega arith), d, e)
         go more true e false g =
-            ap (λ (c : Channels). view c (place i j)) (after-in n e)
+            ap (λ (c : Channels). view c (channelIndex i j)) (after-in n e)
             ∙ law (after n) n (sent-whole (membersBelow n to) l from word w) (omega arith) (free e) i j hj
             ∙ rw (g, and-false (eqb i from), next j n (eqb-false j n g)) more
         go more false e true g =
             let d : has to j ≡ false = ap (has to) (eqb-true j n g) ∙ e in
-            ap (λ (c : Channels). view c (place i j)) (after-out n e) ∙ more
+            ap (λ (c : Channels). view c (channelIndex i j)) (after-out n e) ∙ more
             ∙ rw (d, and-false (ltb j n), and-false (ltb j (suc n)))
         go more false e false g =
-            ap (λ (c : Channels). view c (place i j)) (after-out n e) ∙ rw (next j n (eqb-false j n g)) more
+            ap (λ (c : Channels). view c (channelIndex i j)) (after-out n e) ∙ rw (next j n (eqb-false j n g)) more
 
 module _ (l : Channels) (from to set : ℕ) (w : Whole l) (h : from < 8) (f : allFree l from to ≡ true) where
   pub requested-items : (i j : ℕ) → j < 8
-      → itemsOn (requestedAll l from to set) (place i j) ≡ on (eqb i from && has to j) (join (request set)) (itemsOn l (place i j))
+      → itemsOn (requestedAll l from to set) (channelIndex i j) ≡ on (eqb i from && has to j) (join (request set)) (itemsOn l (channelIndex i j))
   unfolding requestedAll allFree members
   requested-items i j hj =
       after-view l from to (requestWord set) w itemsOn (join (itemOf (requestWord set)))
@@ -461,7 +461,7 @@ module _ (l : Channels) (from to set : ℕ) (w : Whole l) (h : from < 8) (f : al
       ∙ rw (lt-ltb j 8 hj, item-request set)
 
   pub requested-lens : (i j : ℕ) → j < 8
-      → lenOf (requestedAll l from to set) (place i j) ≡ on (eqb i from && has to j) (λ n. n + 1) (lenOf l (place i j))
+      → lenOf (requestedAll l from to set) (channelIndex i j) ≡ on (eqb i from && has to j) (λ n. n + 1) (lenOf l (channelIndex i j))
   unfolding requestedAll allFree members
   requested-lens i j hj =
       after-view l from to (requestWord set) w lenOf (λ n. n + 1)

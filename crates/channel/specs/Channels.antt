@@ -1,5 +1,5 @@
 -- The channels ("lines") of a site: 64 of 16 places each in one list of 1,024 words, and their 64 lengths. The channel from the zone at
--- index i to the zone at index j is at place i * 8 + j.
+-- index i to the zone at index j is at index i * 8 + j.
 use mathlib.Core.Bool.{Bool, true, cond, _||_, _&&_, not}
 use mathlib.Core.List.{List, [], _∷_, map}
 use mathlib.Core.Path.{_≡_}
@@ -13,7 +13,7 @@ use Rattle.rules.specs.Site.{Item}
 use Rattle.channel.specs.Words.{itemOf, requestWord}
 use Rattle.channel.specs.declared.Channels.{Channels}
 
--- A place for each ordered pair of zones, and the words of all.
+-- An index for each ordered pair of zones, and the words of all.
 abbrev pub mostChannels : ℕ
 mostChannels = mostZones * mostZones
 
@@ -27,10 +27,10 @@ channelsAs items lens = record { items = items; lens = lens }
 abbrev pub Whole : Channels → Type 0
 Whole l = (length (l .items) ≡ mostWords) × (length (l .lens) ≡ mostChannels)
 
-abbrev pub place : ℕ → ℕ → ℕ
-place i j = i * mostZones + j
+abbrev pub channelIndex : ℕ → ℕ → ℕ
+channelIndex i j = i * mostZones + j
 
--- Is there a channel at place k on a site of so many zones: "a line for each ordered pair of different zones"?
+-- Is there a channel at index k on a site of so many zones: "a line for each ordered pair of different zones"?
 unfoldable pub isChannel : ℕ → ℕ → Bool
 isChannel count k = ltb (k / mostZones) count && ltb (k % mostZones) count && not (eqb (k / mostZones) (k % mostZones))
 
@@ -55,7 +55,7 @@ Clean l = (k p : ℕ) → k < mostChannels → p < places → lenOf l k ≤ p �
 
 -- Does no channel from the zone at an index hold an item? Asked of the lengths.
 unfoldable pub allEmpty : List ℕ → ℕ → Bool
-allEmpty lens from = allBelow mostZones (λ j. eqb (getD lens (place from j) 0) 0)
+allEmpty lens from = allBelow mostZones (λ j. eqb (getD lens (channelIndex from j) 0) 0)
 
 -- Question 8: "Has the line a free place?"
 abbrev pub isFree : Channels → ℕ → Bool
@@ -83,7 +83,7 @@ popped l k =
 -- Question 10: "Has each line that must take a request a free place?" The zone at index from sends to each zone of a set.
 abbrev pub freeBelow : ℕ → Channels → ℕ → ℕ → Bool
 freeBelow zero l from to = true
-freeBelow (suc n) l from to = freeBelow n l from to && (not (has to n) || isFree l (place from n))
+freeBelow (suc n) l from to = freeBelow n l from to && (not (has to n) || isFree l (channelIndex from n))
 
 unfoldable pub allFree : Channels → ℕ → ℕ → Bool
 allFree l from to = freeBelow mostZones l from to
@@ -91,7 +91,7 @@ allFree l from to = freeBelow mostZones l from to
 -- The number of the first of some zones, in their order, whose channel is full; 0 where there is none.
 abbrev pub fullAmong : List ℕ → Channels → ℕ → ℕ
 fullAmong [] l from = 0
-fullAmong (k ∷ ks) l from = cond (isFree l (place from k)) (fullAmong ks l from) (k + 1)
+fullAmong (k ∷ ks) l from = cond (isFree l (channelIndex from k)) (fullAmong ks l from) (k + 1)
 
 -- The lowest zone of a set whose channel is full, by its number; 0 where all have a free place.
 unfoldable pub firstFull : Channels → ℕ → ℕ → ℕ
@@ -100,7 +100,7 @@ firstFull l from to = fullAmong (members to) l from
 -- A word on the channel to each of some zones.
 abbrev pub sentEach : List ℕ → Channels → ℕ → ℕ → Channels
 sentEach [] l from word = l
-sentEach (k ∷ ks) l from word = sentEach ks (pushed l (place from k) word) from word
+sentEach (k ∷ ks) l from word = sentEach ks (pushed l (channelIndex from k) word) from word
 
 -- A request with a set on the channel to each zone of another set.
 unfoldable pub requestedAll : Channels → ℕ → ℕ → ℕ → Channels

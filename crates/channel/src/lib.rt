@@ -1,5 +1,5 @@
 // The channels ("lines") of a site: 64 of 16 places, each first in first out. Items are words; the places behind a channel's last item
-// hold 0, so that equal contents are equal values. Callers name a channel by its place, which they know to be below `CHANNELS`.
+// hold 0, so that equal contents are equal values. Callers name a channel by its index, which they know to be below `CHANNELS`.
 ghost use mathlib.Core.Path.{_≡_};
 ghost use mathlib.Core.List.{List};
 ghost use Prim.Native.Nat.{ℕ, _<_, min};
@@ -20,7 +20,7 @@ use rules::MOST_ITEMS;
 use rules::PLACES;
 use rules::ZONES;
 
-// `mostChannels`: a place for each ordered pair of zones.
+// `mostChannels`: an index for each ordered pair of zones.
 pub const CHANNELS: usize = ZONES * ZONES;
 
 // `mostWords`: the words of all channels.
@@ -40,15 +40,15 @@ pub struct Channels {
     pub lens: [u8; CHANNELS],
 }
 
-// The place of the channel from one zone to another, both by index. A site has at most 8 zones, so the indices are below 8.
-pub fn place(from: usize, to: usize) -> usize
+// The index of the channel from one zone to another, both by index. A site has at most 8 zones, so the indices are below 8.
+pub fn channel_index(from: usize, to: usize) -> usize
     requires { ⌜ (from < mostZones) × (to < mostZones) ⌝ }
-    ensures { λ k. ⌜ (k ≡ Rattle.channel.specs.Channels.place from to) × (k < mostChannels) ⌝ }
+    ensures { λ k. ⌜ (k ≡ Rattle.channel.specs.Channels.channelIndex from to) × (k < mostChannels) ⌝ }
 {
     from * ZONES + to
 }
 
-// Whether a site of `count` zones has a channel at place k.
+// Whether a site of `count` zones has a channel at index k.
 pub fn is_channel(count: u8, k: usize) -> bool
     ensures { λ r. ⌜ r ≡ isChannel count k ⌝ }
 {
@@ -84,7 +84,7 @@ pub fn looked_at(len: u8) -> usize
     len as usize
 }
 
-// One item more at the end of a channel; a full channel stays as it is. The place is one that `place` gives.
+// One item more at the end of a channel; a full channel stays as it is. The index is one that `channel_index` gives.
 pub fn push(items: &mut [u16; WORDS], lens: &mut [u8; CHANNELS], k: usize, word: u16)
     requires { ⌜ k < mostChannels ⌝ }
     ensures { λ r. ⌜
@@ -128,7 +128,7 @@ pub fn first_full(lens: &[u8; CHANNELS], from: usize, to: u8) -> u8
     let mut rest = to;
     while rest != 0 {
         let j = u8::trailing_zeros(rest) as usize;
-        let k = place(from, j);
+        let k = channel_index(from, j);
         if MOST_ITEMS <= lens[k] {
             return j as u8 + 1;
         }
@@ -157,7 +157,7 @@ pub fn request_all(
     let mut left = u8::count_ones(to);
     while left != 0 {
         let j = u8::trailing_zeros(rest) as usize;
-        let at = place(from, j);
+        let at = channel_index(from, j);
         push(items, lens, at, word);
         rest = rest & (rest - 1);
         left -= 1;

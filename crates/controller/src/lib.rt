@@ -30,9 +30,9 @@ pub fn receive(zone: &mut Zone, from: u8, cars: u8, flag: bool) -> Step
 pub fn request(zone: &mut Zone, set: u8) -> Step
     ensures { λ r. ⌜ (r ≡ requestStep (now (zone .entry)) set) × (now (zone .exit) ≡ requestStep (now (zone .entry)) set .zone) ⌝ }
 {
-    let asked = (*zone).request(set);
-    *zone = asked.zone;
-    asked
+    let requested = (*zone).request(set);
+    *zone = requested.zone;
+    requested
 }
 
 // A recording is started by this zone.

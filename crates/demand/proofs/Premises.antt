@@ -8,14 +8,14 @@ use lib.ListN.{take, replicate}
 use Rattle.rules.specs.Cut.{Cut}
 use Rattle.rules.specs.Questions.{isCount, isOn}
 use Rattle.rules.specs.Sets.{has, members}
-use Rattle.local.specs.Asked.{requestedBy, startedBy}
+use Rattle.local.specs.Requesting.{requestedBy, startedBy}
 use Rattle.channel.specs.Words.{itemOf, messageWord}
 use Rattle.channel.specs.Channels.{isChannel, pushed, movedDown, popped, allFree, requestedAll}
 use Rattle.run.specs.Calls.{isPair, answer}
 use Rattle.run.specs.Claims.{AllTyped}
 use Rattle.run.specs.Lists.{after, acceptedCalls}
 use Rattle.run.specs.Opening.{termsAs, openingAs, openingOf, openedRun, openCall}
-use Rattle.run.specs.State.{zoneSound, zonesSound, channelSound, channelsSound, stocks, carsOnChannels, partsSound, hasStarted}
+use Rattle.run.specs.State.{localSound, localsSound, channelSound, channelsSound, stocks, carsOnChannels, partsSound, hasStarted}
 use Rattle.run.specs.declared.Opening.{Opening}
 use Rattle.run.specs.declared.Run.{Run}
 use Rattle.run.specs.declared.SiteCall.{SiteCall}
@@ -57,7 +57,7 @@ unfolding openCall isCount
 openedA = refl
 
 answeredA : recordCall (after callsA (openCall openingA .run)) (replicate 16 0) .answer .refusal ≡ 0
-unfolding has members isCount isOn requestedBy startedBy itemOf messageWord pushed movedDown popped allFree requestedAll isChannel zoneSound zonesSound channelSound channelsSound stocks carsOnChannels partsSound hasStarted openedRun isPair openCall answer journalBytes decode readCall sameLocal sameChannel sameZones sameChannels sameState replaysTo isReplayed noRequests recordCall itemWords recordingBytes
+unfolding has members isCount isOn requestedBy startedBy itemOf messageWord pushed movedDown popped allFree requestedAll isChannel localSound localsSound channelSound channelsSound stocks carsOnChannels partsSound hasStarted openedRun isPair openCall answer journalBytes decode readCall sameLocal sameChannel sameZones sameChannels sameState replaysTo isReplayed noRequests recordCall itemWords recordingBytes
 answeredA = refl
 
 -- So demand 3 says of case A that its recording, as the bytes written show it, is a consistent cut.

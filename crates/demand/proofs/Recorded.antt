@@ -32,7 +32,7 @@ use Rattle.journal.specs.Writing.{isReplayed, Output, refusedOutput, writtenOut
 use Rattle.journal.proofs.Replays.{named}
 use Rattle.journal.proofs.TrueRuns.{true-tells, true-replayed}
 use Rattle.journal.proofs.Words.{decode-record}
-use Rattle.recording.specs.Call.{callsIn, noRequests, snapshotOf, recordCall}
+use Rattle.recording.specs.Call.{ruleCallsIn, noRequests, snapshotOf, recordCall}
 use Rattle.recording.specs.Layout.{recordingBytes}
 use Rattle.recording.specs.Shown.{shownIn}
 use Rattle.recording.proofs.Complete.{complete-if, if-complete}
@@ -42,12 +42,12 @@ use Rattle.recording.proofs.Zones.{site-is}
 use Rattle.demand.specs.Demand.{Demand}
 
 -- The records of the accepted calls stand for these calls.
-calls-decoded : (cs : List SiteCall) (r : Run) → AllTyped cs → callsIn (acceptedRecords cs r) ≡ acceptedCalls cs r
+calls-decoded : (cs : List SiteCall) (r : Run) → AllTyped cs → ruleCallsIn (acceptedRecords cs r) ≡ acceptedCalls cs r
 calls-decoded [] r t = refl
 calls-decoded (c ∷ cs) r t = go (isAccepted c r) refl (calls-decoded cs (answer c r .run) (t .1))
   where
-    go : (b : Bool) → isAccepted c r ≡ b → callsIn (acceptedRecords cs (answer c r .run)) ≡ acceptedCalls cs (answer c r .run)
-        → callsIn (cons-if b (recordOf c) (acceptedRecords cs (answer c r .run))) ≡ cons-if b (callOf c) (acceptedCalls cs (answer c r .run))
+    go : (b : Bool) → isAccepted c r ≡ b → ruleCallsIn (acceptedRecords cs (answer c r .run)) ≡ acceptedCalls cs (answer c r .run)
+        → ruleCallsIn (cons-if b (recordOf c) (acceptedRecords cs (answer c r .run))) ≡ cons-if b (callOf c) (acceptedCalls cs (answer c r .run))
     go true e h =
         ap (λ (x : Record). map callOf (consCall x (format.callsIn (acceptedRecords cs (answer c r .run))))) (decode-record c (t .0) (named c r e))
         ∙ ap (λ (l : List Call). callOf c ∷ l) h
@@ -128,12 +128,12 @@ module _ (r : Run) (w : WholeRun r) (e : isReplayed r ≡ true) (lent : List ℕ
   by-number : ByNumber r lent (recordCall r lent)
   by-number = record-numbers r lent e
 
-  replayed-demand : Demand (openedWith r) (callsIn (recordWords r)) r lent (recordCall r lent .answer) (recordCall r lent .bytes)
+  replayed-demand : Demand (openedWith r) (ruleCallsIn (recordWords r)) r lent (recordCall r lent .answer) (recordCall r lent .bytes)
   replayed-demand = record {
     only-complete = λ z. let a = by-number .accepted z in complete-if r w e (a .0) (a .1);
     if-complete = λ c n. let h = if-complete r w e c in by-number .accepts (h .0) (h .1) n;
     cut = λ z. let a = by-number .accepted z in
-        subst (λ (bytes : List ℕ). Cut (openingOf (openedWith r)) (callsIn (recordWords r)) (shownIn bytes)) (append-nil (bytesOf r) ∙ sym (a .2))
+        subst (λ (bytes : List ℕ). Cut (openingOf (openedWith r)) (ruleCallsIn (recordWords r)) (shownIn bytes)) (append-nil (bytesOf r) ∙ sym (a .2))
         (recording-cuts r w e (a .0) (a .1) []);
     ends = ap present (sym (site-is r w e));
     refusals = by-number .refusals;
@@ -160,8 +160,8 @@ module _ (o : Opening) (opened : openCall o .refusal ≡ 0) (cs : List SiteCall)
   opening-is : openedWith last ≡ o
   opening-is = true-tells o cs opened .opening
 
-  calls-are : callsIn (recordWords last) ≡ calls
-  calls-are = ap callsIn (true-tells o cs opened .records) ∙ calls-decoded cs (openCall o .run) typed
+  calls-are : ruleCallsIn (recordWords last) ≡ calls
+  calls-are = ap ruleCallsIn (true-tells o cs opened .records) ∙ calls-decoded cs (openCall o .run) typed
 
   pub true-demand : (lent : List ℕ)
       → Demand o (acceptedCalls cs (openCall o .run)) (after cs (openCall o .run)) lent

@@ -2,12 +2,12 @@
 use mathlib.Core.Path.{_≡_, refl}
 use Rattle.rules.specs.Questions.{isCount, isOn}
 use Rattle.rules.specs.Sets.{has, members}
-use Rattle.local.specs.Asked.{requestedBy, startedBy}
+use Rattle.local.specs.Requesting.{requestedBy, startedBy}
 use Rattle.channel.specs.Words.{itemOf, messageWord}
 use Rattle.channel.specs.Channels.{isChannel, pushed, movedDown, popped, allFree, requestedAll}
 use Rattle.run.specs.Calls.{isPair, answer}
 use Rattle.run.specs.Opening.{openedRun, openCall}
-use Rattle.run.specs.State.{zoneSound, zonesSound, channelSound, channelsSound, stocks, carsOnChannels, partsSound, hasStarted}
+use Rattle.run.specs.State.{localSound, localsSound, channelSound, channelsSound, stocks, carsOnChannels, partsSound, hasStarted}
 use Rattle.journal.specs.Format.{journalBytes, decode}
 use Rattle.journal.specs.Reading.{readCall}
 use Rattle.journal.specs.Writing.{
@@ -24,11 +24,11 @@ use Rattle.recording.specs.Layout.{itemWords, recordingBytes}
 use Rattle.recording.specs.Call.{noRequests, recordCall}
 use Rattle.recording.specs.Journal.{recordJournal}
 use Rattle.text.specs.Text.{digitCode, decimalText}
-use Rattle.zone.specs.Zone.{isOther, isSound, openZone, sendStep, receiveStep, requestStep, startStep}
+use Rattle.zone.specs.Zone.{isOther, isZoneSound, openZone, sendStep, receiveStep, requestStep, startStep}
 use Rattle.report.specs.Report.{reportText}
 use Rattle.edges.specs.Rows.{answers, expectations}
 use Rattle.edges.specs.Edges.{table}
 
 pub edges : answers table ≡ expectations table
-unfolding isCount isOn has members requestedBy startedBy itemOf messageWord pushed movedDown popped allFree requestedAll isPair openCall answer isChannel zoneSound zonesSound channelSound channelsSound stocks carsOnChannels partsSound hasStarted openedRun journalBytes decode readCall sameLocal sameChannel sameZones sameChannels sameState replaysTo isReplayed writeCall itemWords recordingBytes noRequests recordCall recordJournal digitCode decimalText isOther isSound openZone sendStep receiveStep requestStep startStep reportText
+unfolding isCount isOn has members requestedBy startedBy itemOf messageWord pushed movedDown popped allFree requestedAll isPair openCall answer isChannel localSound localsSound channelSound channelsSound stocks carsOnChannels partsSound hasStarted openedRun journalBytes decode readCall sameLocal sameChannel sameZones sameChannels sameState replaysTo isReplayed writeCall itemWords recordingBytes noRequests recordCall recordJournal digitCode decimalText isOther isZoneSound openZone sendStep receiveStep requestStep startStep reportText
 edges = refl

@@ -212,7 +212,7 @@ thousand =
 abbrev pub alone : Run
 alone = twoWith (zone 5 1 0 (permanent 5 0) ∷ zone 7 2 0 None ∷ []) [] (0x8000 ∷ [])
 
--- Zone 1 is shown firm with 0 events and stock 5, zone 2 with 0 events and stock 7.
+-- Zone 1 is shown permanent ("firm") with 0 events and stock 5, zone 2 with 0 events and stock 7.
 abbrev pub recordingAlone : List ℕ
 recordingAlone = 0x24 ∷ 0x00 ∷ 0x80 ∷ 0x00 ∷ 0x00 ∷ 0x05 ∷ 0x00 ∷ 0x00 ∷ 0x00 ∷ 0x07 ∷ []
 
@@ -224,15 +224,15 @@ waiting = twoWith
     (0x0801 ∷ 0x4800 ∷ 0x8000 ∷ [])
 
 -- Zone 8 depends on zone 7, and starts; then zone 7 receives its request.
-abbrev pub asking : Run
-asking = eightWith
+abbrev pub requestSent : Run
+requestSent = eightWith
     (zone 0 64 1 None)
     (zone 255 192 1 (permanent 255 1))
     (channel 8 7 (request 192 ∷ []) ∷ [])
     (0x37FF ∷ 0x7700 ∷ 0xB800 ∷ [])
 
-abbrev pub asked : Run
-asked = eightWith
+abbrev pub requestReceived : Run
+requestReceived = eightWith
     (zone 0 64 1 (permanent 0 1))
     (zone 255 192 1 (permanent 255 1))
     []
@@ -257,9 +257,9 @@ starts =
     -- "later bytes keep what they had".
     ∷ records alone [] (lent 13) 0 10 (recordingAlone ++ lent 3)
     -- The zones and the cars of a record are the highest that it can name.
-    ∷ gives eight (Send 7 8 255 ∷ Receive 7 8 ∷ []) (Start 8) 0 asking
-    ∷ gives asking [] (Receive 8 7) 0 asked
-    ∷ records asked [] (lent 34) 0 34
+    ∷ gives eight (Send 7 8 255 ∷ Receive 7 8 ∷ []) (Start 8) 0 requestSent
+    ∷ gives requestSent [] (Receive 8 7) 0 requestReceived
+    ∷ records requestReceived [] (lent 34) 0 34
     (
     0x3C ∷ 0x00
     ∷ 0x00 ∷ 0x00 ∷ 0x00 ∷ 0x0A
@@ -381,7 +381,7 @@ recordingPassing =
     ∷ 0x01 ∷ 0x0B ∷ 0x01 ∷ 0x0C ∷ 0x01 ∷ 0x0D ∷ 0x01 ∷ 0x0E ∷ 0x01 ∷ 0x0F
     ∷ 0x01 ∷ 0x10 ∷ 0x01 ∷ 0x11 ∷ 0x01 ∷ 0x12 ∷ 0x01 ∷ 0x13 ∷ 0x01 ∷ 0x14 ∷ []
 
--- All three zones are recorded: zone 1 before it receives 6 cars from zone 3, zones 2 and 3 when they are asked.
+-- All three zones are recorded: zone 1 before it receives 6 cars from zone 3, zones 2 and 3 when they receive a request.
 abbrev pub callsAll : List SiteCall
 callsAll =
     Send 3 2 5 ∷ Send 3 2 9 ∷ Send 3 1 6 ∷ Send 3 1 4 ∷ Send 2 3 7 ∷ Send 1 3 2 ∷ Send 1 2 1 ∷ Send 2 1 0 ∷ Receive 2 1 ∷ Receive 3 2

@@ -1,5 +1,5 @@
--- The rows of the table of edges: what is asked, and the whole answer that is expected. The runs of a row are written out, by none of the
--- definitions that are asked.
+-- The rows of the table of edges: what is called, and the whole answer that is expected. The runs of a row are written out, by none of the
+-- definitions that are called.
 use mathlib.Core.Bool.{true, false, cond}
 use mathlib.Core.List.{List, [], _∷_, _++_, map}
 use Prim.Native.Nat.{ℕ, zero, suc, _+_, _-_, _*_, _^_}
@@ -25,16 +25,16 @@ use Rattle.text.specs.Codes.{codes}
 use Rattle.zone.proofs.Examples as zones
 use Rattle.report.specs.Report.{reportText}
 
--- What is asked: an answer of the zone part; an opening; a call on a run, its recording or its journal, each after some calls on it; the
+-- What is called: an answer of the zone part; an opening; a call on a run, its recording or its journal, each after some calls on it; the
 -- reading of a journal; the program's text of a journal. A row holds this and not its answer, so that the check computes each run only once.
-pub data Ask : Type 0 where
-  Part : zones.Reply → Ask
-  Open : Opening → Ask
-  Call : Run → List SiteCall → SiteCall → Ask
-  Record : Run → List SiteCall → (lent : List ℕ) → Ask
-  Write : Run → List SiteCall → (lent : List ℕ) → Ask
-  Read : (journal : List ℕ) → Ask
-  Print : (journal : List ℕ) → Ask
+pub data RowCall : Type 0 where
+  Part : zones.Reply → RowCall
+  Open : Opening → RowCall
+  Call : Run → List SiteCall → SiteCall → RowCall
+  Record : Run → List SiteCall → (lent : List ℕ) → RowCall
+  Write : Run → List SiteCall → (lent : List ℕ) → RowCall
+  Read : (journal : List ℕ) → RowCall
+  Print : (journal : List ℕ) → RowCall
 
 pub data Reply : Type 0 where
   part : zones.Reply → Reply
@@ -44,7 +44,7 @@ pub data Reply : Type 0 where
   text : List ℕ → Reply
 
 -- The answer, by the definitions that the contracts cite.
-abbrev pub reply : Ask → Reply
+abbrev pub reply : RowCall → Reply
 reply (Part r) = part r
 reply (Open o) = site (openCall o)
 reply (Call r cs c) = site (answer c (after cs r))
@@ -54,12 +54,12 @@ reply (Read journal) = reading (readCall journal)
 reply (Print journal) = text (reportText journal)
 
 pub record Row : Type 0 where
-  pub ask : Ask
+  pub call : RowCall
   pub expected : Reply
 
 abbrev pub answers : List Row → List Reply
 answers [] = []
-answers (r ∷ rs) = reply (r .ask) ∷ answers rs
+answers (r ∷ rs) = reply (r .call) ∷ answers rs
 
 abbrev pub expectations : List Row → List Reply
 expectations [] = []
@@ -67,15 +67,15 @@ expectations (r ∷ rs) = r .expected ∷ expectations rs
 
 -- A row of the zone part's own table.
 abbrev pub partRow : zones.Row → Row
-partRow r = record { ask = Part (r .answer); expected = part (r .expected) }
+partRow r = record { call = Part (r .answer); expected = part (r .expected) }
 
 -- An opening by its zone count and stocks, with the refusal's number and the run.
 abbrev pub opens : ℕ → List ℕ → ℕ → Run → Row
-opens count stocks n r = record { ask = Open (openingAs (termsAs count) stocks); expected = site (record { refusal = n; run = r }) }
+opens count stocks n r = record { call = Open (openingAs (termsAs count) stocks); expected = site (record { refusal = n; run = r }) }
 
 -- A call on a run after some calls, with the refusal's number and the run.
 abbrev pub gives : Run → List SiteCall → SiteCall → ℕ → Run → Row
-gives r cs c n r′ = record { ask = Call r cs c; expected = site (record { refusal = n; run = r′ }) }
+gives r cs c n r′ = record { call = Call r cs c; expected = site (record { refusal = n; run = r′ }) }
 
 -- A writer's answer: the refusal's number, the number of bytes written, and all the lent bytes after it.
 abbrev pub written : ℕ → ℕ → List ℕ → Reply
@@ -83,25 +83,25 @@ written n number bytes = output (record { answer = record { refusal = n; written
 
 -- A recording of a run after some calls, and a journal of it.
 abbrev pub records : Run → List SiteCall → List ℕ → ℕ → ℕ → List ℕ → Row
-records r cs lent n number bytes = record { ask = Record r cs lent; expected = written n number bytes }
+records r cs lent n number bytes = record { call = Record r cs lent; expected = written n number bytes }
 
 abbrev pub writes : Run → List SiteCall → List ℕ → ℕ → ℕ → List ℕ → Row
-writes r cs lent n number bytes = record { ask = Write r cs lent; expected = written n number bytes }
+writes r cs lent n number bytes = record { call = Write r cs lent; expected = written n number bytes }
 
 -- A reading, with the refusal's number, the record's position and the run.
 abbrev pub reads : List ℕ → ℕ → ℕ → Run → Row
 reads journal n position r = record {
-  ask = Read journal;
+  call = Read journal;
   expected = reading (record { refusal = n; position = position; run = r });
 }
 
 -- What the program prints of a journal.
 abbrev pub prints : List ℕ → String → Row
-prints journal line = record { ask = Print journal; expected = text (codes line) }
+prints journal line = record { call = Print journal; expected = text (codes line) }
 
 -- A zone: its stock, dependency set, own events and checkpoint.
 abbrev pub zone : ℕ → ℕ → ℕ → Checkpoint → Local
-zone stock deps events mark = record { stock = stock; deps = deps; events = events; checkpoint = mark }
+zone stock deps events checkpoint = record { stock = stock; deps = deps; events = events; checkpoint = checkpoint }
 
 -- The checkpoints, by the stock and the own events that they keep.
 abbrev pub mutable : ℕ → ℕ → Checkpoint
@@ -130,7 +130,7 @@ word (message cars false) = cars
 word (message cars true) = 256 + cars
 word (request set) = 512 + set
 
--- The words of the channel at place k; the one from zone a to zone b is at (a - 1) * 8 + (b - 1).
+-- The words of the channel at index k; the one from zone a to zone b is at (a - 1) * 8 + (b - 1).
 abbrev pub wordsAt : List Channel → ℕ → List ℕ
 wordsAt [] k = []
 wordsAt (l ∷ ls) k = cond (eqb k ((l .from - 1) * 8 + (l .to - 1))) (map word (l .items)) (wordsAt ls k)
@@ -139,7 +139,7 @@ wordsAt (l ∷ ls) k = cond (eqb k ((l .from - 1) * 8 + (l .to - 1))) (map word 
 abbrev pub padded : ℕ → List ℕ → List ℕ
 padded n xs = take n (xs ++ replicate n 0)
 
--- The 16 words of each of n channels from place k on, and the lengths of these channels.
+-- The 16 words of each of n channels from index k on, and the lengths of these channels.
 abbrev pub wordsFrom : ℕ → ℕ → List Channel → List ℕ
 wordsFrom k zero ls = []
 wordsFrom k (suc n) ls = padded 16 (wordsAt ls k) ++ wordsFrom (suc k) n ls

@@ -111,7 +111,7 @@ seen-all seen shown ws ns i e s =
     here : (k : ℕ) → getD seen k 0 ≡ countAt k shown ws ns
     here k = omega (arith, (rw ended at (s .each k)))
 
--- At a high byte below 64 the messages of that place are counted, at one of 64 more its receipts.
+-- At a high byte below 64 the messages of that index are counted, at one of 64 more its receipts.
 module _ (shown : List ℕ) (k : ℕ) (b : k < 64) where
   sends-is : (w n : ℕ) → countsAt k shown w n ≡ sendsOn k shown w n
   sends-is w n = rw (lt-ltb k 64 b)

@@ -1,4 +1,4 @@
 pub mod Counting
-pub mod Places
+pub mod ChannelStarts
 pub mod Walking
 pub mod Writing

@@ -37,7 +37,7 @@ more-wrote ws vs o out ys at n a h b = record {
 pub word-wrote : (w : ℕ) (o out : List ℕ) → out ≡ wordBytes w ++ drop 2 o → Wrote (w ∷ []) o out 2
 word-wrote w o out e = record { number = refl; bytes = e }
 
--- The items at a place, by the numbers of its messages and receipts.
+-- The items at an index, by the numbers of its messages and receipts.
 module _ (count : ℕ) (seen shown ws ns : List ℕ) (c : Counted seen shown ws ns) where
   pub number-is : (k : ℕ) → k < 64 → numberAt count seen k ≡ length (wordsAt count shown ws ns k)
   unfolding numberAt wordsAt
@@ -56,7 +56,7 @@ module _ (count : ℕ) (seen shown ws ns : List ℕ) (c : Counted seen shown ws 
       go true f = rw (c .taken k h)
       go false f = absurd (e (rw f))
 
-  -- The number of the items before place k, and of all.
+  -- The number of the items before channel k, and of all.
   pub start-is : (k : ℕ) → k ≤ 64 → startAt count seen k ≡ length (joinBelow k (wordsAt count shown ws ns))
   unfolding startAt
   start-is zero h = refl

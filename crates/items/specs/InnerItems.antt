@@ -1,4 +1,4 @@
--- The items of a recording by place, over the definitions of the recording.
+-- The items of a recording by index, over the definitions of the recording.
 use mathlib.Core.Path.{_≡_}
 use mathlib.Core.Bool.{Bool, cond, _&&_}
 use mathlib.Core.List.{List, [], _∷_}
@@ -32,12 +32,12 @@ countAt high shown (w ∷ ws) (n ∷ ns) = on (countsAt high shown w n) suc (cou
 unfoldable pub counts : List ℕ → List ℕ → List ℕ → List ℕ
 counts shown ws ns = listBelow 256 (λ high. countAt high shown ws ns)
 
--- What these numbers say of channels: of each place, how many messages and how many receipts are inside.
+-- What these numbers say of channels: of each index, how many messages and how many receipts are inside.
 pub record Counted (seen shown ws ns : List ℕ) : Type 0 where
   pub sent : (k : ℕ) → k < 64 → getD seen k 0 ≡ length (sentWords k shown ws ns)
   pub taken : (k : ℕ) → k < 64 → getD seen (64 + k) 0 ≡ takenCount k shown ws ns
 
--- The number of items at place k by these numbers, at the places before it, and at all.
+-- The number of items at index k by these numbers, at the channels before it, and at all.
 unfoldable pub numberAt : ℕ → List ℕ → ℕ → ℕ
 numberAt count seen k = cond (isChannel count k) (getD seen k 0 - getD seen (64 + k) 0) 0
 
@@ -47,11 +47,11 @@ startAt count seen k = sumBelow k (numberAt count seen)
 unfoldable pub itemNumber : ℕ → List ℕ → ℕ
 itemNumber count seen = startAt count seen 64
 
--- A list has, for each place up to n, the number of items at the places before it.
+-- A list has, for each channel up to n, the number of items at the channels before it.
 abbrev pub Starts : ℕ → List ℕ → ℕ → List ℕ → Type 0
 Starts n starts count seen = (k : ℕ) → k ≤ n → getD starts k 0 ≡ startAt count seen k
 
--- The words of the items at place k; none where the site has no channel there. Then those of all places, in order.
+-- The words of the items at index k; none where the site has no channel there. Then those of all indices, in order.
 unfoldable pub wordsAt : ℕ → List ℕ → List ℕ → List ℕ → ℕ → List ℕ
 wordsAt count shown ws ns k = cond (isChannel count k) (itemsAt k shown ws ns) []
 

@@ -3,9 +3,19 @@ ghost use mathlib.Core.Path.{_≡_};
 ghost use mathlib.Core.Bool.{cond};
 ghost use Prim.Native.Nat.{_-_, _*_, _/_, _<_, _≤_};
 ghost use lib.ListN.{length, getD};
+ghost use Rattle.rules.specs.Limits.{mostRecords};
+ghost use Rattle.channel.specs.Channels.{mostChannels};
 ghost use Rattle.recording.specs.InnerRecords.{isIn};
 ghost use Rattle.items.specs.InnerItems.{ownerOf, isSent, counts, Counted, numberAt, itemNumber, Starts, allWords};
 ghost use Rattle.words.specs.InnerWrote.{Wrote};
+use channel::CHANNELS;
+use rules::ZONES;
+
+// The values of a record's high byte: its kind and its channel's index.
+pub const HIGH_BYTES: usize = 256;
+
+// A start for each channel, and one behind the last.
+const STARTS: usize = CHANNELS + 1;
 
 // 1 for an event that is inside the events shown, by its number; else 0.
 fn inside(number: u16, shown: u16) -> u16
@@ -17,7 +27,7 @@ fn inside(number: u16, shown: u16) -> u16
     0
 }
 
-// The high byte of a record's word: its kind and its channel's place.
+// The high byte of a record's word: its kind and its channel's index.
 fn high_byte(word: u16) -> usize
     ensures { λ r. ⌜ (r ≡ word / 256) × (r < 256) ⌝ }
 {
@@ -26,27 +36,27 @@ fn high_byte(word: u16) -> usize
 
 // The events shown for the zone that acts, by the high byte of a record's word: the sender's for a message, the receiver's for a receipt.
 // A high byte is below 256.
-fn shown_for(shown: &[u16; 8], high: usize) -> u16
+fn shown_for(shown: &[u16; ZONES], high: usize) -> u16
     requires { ⌜ high < 256 ⌝ }
     ensures { λ r. ⌜ r ≡ getD (now (shown .entry)) (ownerOf high) 0 ⌝ }
 {
-    if high < 64 {
-        return shown[high / 8];
+    if high < CHANNELS {
+        return shown[high / ZONES];
     }
-    shown[high % 8]
+    shown[high % ZONES]
 }
 
-// The records that are inside the events shown, counted by the high byte of their word: messages sent on the channel at place k stand
-// at k, receipts on it at 64 + k. Each of the at most 1,000 records has its own-event number. `counted-of` (crates/items/proofs) says
+// The records that are inside the events shown, counted by the high byte of their word: messages sent on the channel at index k stand
+// at k, receipts on it at 64 + k. Each of the at most 1,000 records has its own-event ordinal. `counted-of` (crates/items/proofs) says
 // that these are the numbers for which `write` asks.
-pub fn counted(words: &[u16], owns: &[u16], shown: [u16; 8]) -> [u16; 256]
-    requires { ⌜ (length (now words) ≤ 1000) × (length (now owns) ≡ length (now words)) ⌝ }
-    ensures { λ r. ⌜ r ≡ counts shown (now (words .entry)) (now (owns .entry)) ⌝ }
+pub fn counted(words: &[u16], ordinals: &[u16], shown: [u16; ZONES]) -> [u16; HIGH_BYTES]
+    requires { ⌜ (length (now words) ≤ mostRecords) × (length (now ordinals) ≡ length (now words)) ⌝ }
+    ensures { λ r. ⌜ r ≡ counts shown (now (words .entry)) (now (ordinals .entry)) ⌝ }
 {
-    let mut seen = [0u16; 256];
+    let mut seen = [0u16; HIGH_BYTES];
     for i in 0..words.len() {
         let word = words[i];
-        let number = owns[i];
+        let number = ordinals[i];
         let high = high_byte(word);
         let limit = shown_for(&shown, high);
         let one = inside(number, limit);
@@ -65,26 +75,26 @@ fn less(sent: u16, taken: u16) -> usize
     (sent - taken) as usize
 }
 
-// The number of items on the channel at place k, which is below 64; 0 where the site has no channel there.
-fn number_at(count: u8, seen: &[u16; 256], k: usize) -> usize
-    requires { ⌜ k < 64 ⌝ }
+// The number of items on the channel at index k, which is below 64; 0 where the site has no channel there.
+fn number_at(count: u8, seen: &[u16; HIGH_BYTES], k: usize) -> usize
+    requires { ⌜ k < mostChannels ⌝ }
     ensures { λ r. ⌜ (r ≡ numberAt count (now (seen .entry)) k) × (r ≤ 65535) ⌝ }
 {
     if !channel::is_channel(count, k) {
         return 0;
     }
     let sent = seen[k];
-    let taken = seen[64 + k];
+    let taken = seen[CHANNELS + k];
     less(sent, taken)
 }
 
-// The number of the items before those of each place, which is where its words begin; behind the last place, the number of all.
-fn starts(count: u8, seen: &[u16; 256]) -> [usize; 65]
-    ensures { λ r. ⌜ Starts 64 r count (now (seen .entry)) ⌝ }
+// The number of the items before those of each channel, which is where its words begin; behind the last channel, the number of all.
+fn starts(count: u8, seen: &[u16; HIGH_BYTES]) -> [usize; STARTS]
+    ensures { λ r. ⌜ Starts mostChannels r count (now (seen .entry)) ⌝ }
 {
-    let mut starts = [0usize; 65];
+    let mut starts = [0usize; STARTS];
     let mut k = 0;
-    while k < 64 {
+    while k < CHANNELS {
         let n = number_at(count, seen, k);
         starts[k + 1] = starts[k] + n;
         k += 1;
@@ -93,58 +103,62 @@ fn starts(count: u8, seen: &[u16; 256]) -> [usize; 65]
 }
 
 // The number of items on all channels of the site.
-pub fn number(count: u8, seen: &[u16; 256]) -> usize
+pub fn number(count: u8, seen: &[u16; HIGH_BYTES]) -> usize
     ensures { λ r. ⌜ r ≡ itemNumber count (now (seen .entry)) ⌝ }
 {
     let starts = starts(count, seen);
-    starts[64]
+    starts[CHANNELS]
 }
 
-// Whether a record is a message inside the sender's events shown, by the high byte of its word and its own-event number.
-fn is_sent(high: usize, number: u16, shown: &[u16; 8]) -> bool
+// Whether a record is a message inside the sender's events shown, by the high byte of its word and its own-event ordinal.
+fn is_sent(high: usize, number: u16, shown: &[u16; ZONES]) -> bool
     ensures { λ r. ⌜ r ≡ isSent high number (now (shown .entry)) ⌝ }
 {
-    if 64 <= high {
+    if CHANNELS <= high {
         return false;
     }
-    inside(number, shown[high / 8]) != 0
+    inside(number, shown[high / ZONES]) != 0
 }
 
 // The words of all items, by sender, then receiver, then order sent, from the front of the lent bytes on. What `counted` counted of these
-// records is `seen`, and question 14 has seen that there is room. One walk over the records does it: `left` has the number of the messages
-// that are still to come at each place, and the next of them stands as many words before the end of the place's items. Where that is before
-// their begin, it was received, or the site has no channel there, and it is passed over.
+// records is `seen`, and question 14 has seen that there is room. The items of a channel are its last messages: one walk over the records,
+// the last one first, writes the words of each index from their end on, until none is missing. At k + 1 `ends` has the number of the items
+// before the written ones of channel k; where this is the channel's start, its messages further back were received, or the site has no channel
+// there.
 pub fn write(
     out: &mut [u8],
     count: u8,
     words: &[u16],
-    owns: &[u16],
-    shown: [u16; 8],
-    seen: &[u16; 256],
+    ordinals: &[u16],
+    shown: [u16; ZONES],
+    seen: &[u16; HIGH_BYTES],
 ) -> usize
     requires { ⌜
-        (length (now owns) ≡ length (now words)) × Counted (now seen) shown (now words) (now owns)
-        × (2 * length (allWords count shown (now words) (now owns)) ≤ length (now out))
+        (length (now ordinals) ≡ length (now words)) × Counted (now seen) shown (now words) (now ordinals)
+        × (2 * length (allWords count shown (now words) (now ordinals)) ≤ length (now out))
         ⌝ }
     ensures { λ r. ⌜
-        Wrote (allWords count shown (now (words .entry)) (now (owns .entry))) (now (out .entry)) (now (out .exit)) r
+        Wrote (allWords count shown (now (words .entry)) (now (ordinals .entry))) (now (out .entry)) (now (out .exit)) r
         ⌝ }
 {
     let starts = starts(count, seen);
-    let mut left = *seen;
-    for i in 0..words.len() {
+    let mut ends = starts;
+    let mut missing = starts[CHANNELS];
+    let mut i = words.len();
+    while missing != 0 {
+        i -= 1;
         let word = words[i];
         let k = high_byte(word);
-        if !is_sent(k, owns[i], &shown) {
+        if !is_sent(k, ordinals[i], &shown) {
             continue;
         }
-        let rest = left[k] as usize;
-        left[k] -= 1;
-        let end = starts[k + 1];
-        if end < starts[k] + rest {
+        let end = ends[k + 1];
+        if end == starts[k] {
             continue;
         }
-        words::write_word(&mut out[2 * (end - rest)..], word);
+        ends[k + 1] = end - 1;
+        missing -= 1;
+        words::write_word(&mut out[2 * (end - 1)..], word);
     }
-    2 * starts[64]
+    2 * starts[CHANNELS]
 }

@@ -1,28 +1,28 @@
 // The steps of one zone's local state, without questions: what the zone part and the site engine both run. Each is a rule of the
-// rules' specs/Zone.antt, or of this crate's specs/Asked.antt. Zones are named by index: the number less one.
+// rules' specs/Zone.antt, or of this crate's specs/Requesting.antt. Zones are named by index: the number less one.
 ghost use mathlib.Core.Path.{_≡_};
 ghost use Prim.Native.Nat.{_+_, _<_, _≤_};
 ghost use Rattle.rules.specs.Limits.{mostZones, mostCars, mostRecords};
-ghost use Rattle.rules.specs.Zone.{isMarked, isPermanent, opened, sent, depsAfter, checkpointAfter, received, withCheckpoint};
+ghost use Rattle.rules.specs.Zone.{hasCheckpoint, isPermanent, opened, sent, depsAfter, checkpointAfter, received, withCheckpoint};
 ghost use Rattle.rules.specs.declared.Checkpoint.the-variants.{Permanent};
 ghost use Rattle.rules.specs.Sets.{only};
-ghost use Rattle.local.specs.Asked.{requestedBy, startedBy, turned};
+ghost use Rattle.local.specs.Requesting.{requestedBy, startedBy, turned};
 use rules::Checkpoint;
 use rules::Local;
 use rules::Saved;
 
 // A local state, the set of zones to be sent a request, and the set that each request carries; both empty when none is sent.
-pub struct Asked {
+pub struct Requesting {
     pub local: Local,
     pub to: u8,
     pub carried: u8,
 }
 
 // Whether there is a checkpoint of either kind.
-pub fn is_marked(mark: Checkpoint) -> bool
-    ensures { λ r. ⌜ r ≡ isMarked mark ⌝ }
+pub fn has_checkpoint(checkpoint: Checkpoint) -> bool
+    ensures { λ r. ⌜ r ≡ hasCheckpoint checkpoint ⌝ }
 {
-    match mark {
+    match checkpoint {
         Checkpoint::None => false,
         Checkpoint::Mutable(_) => true,
         Checkpoint::Permanent(_) => true,
@@ -30,10 +30,10 @@ pub fn is_marked(mark: Checkpoint) -> bool
 }
 
 // Whether there is a permanent checkpoint.
-pub fn is_permanent(mark: Checkpoint) -> bool
-    ensures { λ r. ⌜ r ≡ isPermanent mark ⌝ }
+pub fn is_permanent(checkpoint: Checkpoint) -> bool
+    ensures { λ r. ⌜ r ≡ isPermanent checkpoint ⌝ }
 {
-    match mark {
+    match checkpoint {
         Checkpoint::None => false,
         Checkpoint::Mutable(_) => false,
         Checkpoint::Permanent(_) => true,
@@ -72,12 +72,12 @@ pub fn send(mut z: Local, cars: u8) -> Local
 }
 
 // The dependency set after a message with this flag from a zone.
-fn deps_after(mark: Checkpoint, deps: u8, from: u8, flag: bool) -> u8
+fn deps_after(checkpoint: Checkpoint, deps: u8, from: u8, flag: bool) -> u8
     requires { ⌜ from < mostZones ⌝ }
-    ensures { λ r. ⌜ r ≡ depsAfter mark deps from flag ⌝ }
+    ensures { λ r. ⌜ r ≡ depsAfter checkpoint deps from flag ⌝ }
 {
     let grown = deps | bit(from);
-    match mark {
+    match checkpoint {
         Checkpoint::None => { if flag { deps } else { grown } }
         Checkpoint::Mutable(_) => deps,
         Checkpoint::Permanent(_) => deps,
@@ -85,13 +85,19 @@ fn deps_after(mark: Checkpoint, deps: u8, from: u8, flag: bool) -> u8
 }
 
 // The checkpoint after a message with this flag.
-fn checkpoint_after(mark: Checkpoint, now: Saved, flag: bool) -> Checkpoint
-    ensures { λ r. ⌜ r ≡ checkpointAfter mark now flag ⌝ }
+fn checkpoint_after(checkpoint: Checkpoint, now: Saved, flag: bool) -> Checkpoint
+    ensures { λ r. ⌜ r ≡ checkpointAfter checkpoint now flag ⌝ }
 {
-    match mark {
-        Checkpoint::None => { if flag { Checkpoint::Mutable(now) } else { mark } }
-        Checkpoint::Mutable(_) => mark,
-        Checkpoint::Permanent(_) => mark,
+    match checkpoint {
+        Checkpoint::None => {
+            if flag {
+                Checkpoint::Mutable(now)
+            } else {
+                checkpoint
+            }
+        }
+        Checkpoint::Mutable(_) => checkpoint,
+        Checkpoint::Permanent(_) => checkpoint,
     }
 }
 
@@ -102,10 +108,10 @@ pub fn receive(z: Local, from: u8, cars: u8, flag: bool) -> Local
 {
     let stock = z.stock + cars as u16;
     let events = z.events + 1;
-    let mark = z.checkpoint;
-    let deps = deps_after(mark, z.deps, from, flag);
+    let earlier = z.checkpoint;
+    let deps = deps_after(earlier, z.deps, from, flag);
     let checkpoint = checkpoint_after(
-        mark,
+        earlier,
         Saved {
             stock: z.stock,
             events: z.events,
@@ -133,7 +139,7 @@ fn permanent(z: Local, kept: Saved) -> Local
 }
 
 // The state with a permanent checkpoint, and the requests that it sends after a set was received.
-fn turn(z: Local, kept: Saved, me: u8, set: u8) -> Asked
+fn turn(z: Local, kept: Saved, me: u8, set: u8) -> Requesting
     requires { ⌜ me < mostZones ⌝ }
     ensures { λ r. ⌜ r ≡ turned kept me set z ⌝ }
 {
@@ -142,13 +148,13 @@ fn turn(z: Local, kept: Saved, me: u8, set: u8) -> Asked
     let own = bit(me);
     let to = deps ^ (deps & (set | own));
     if to == 0 {
-        return Asked {
+        return Requesting {
             local,
             to: 0,
             carried: 0,
         };
     }
-    Asked {
+    Requesting {
         local,
         to,
         carried: deps | set,
@@ -156,7 +162,7 @@ fn turn(z: Local, kept: Saved, me: u8, set: u8) -> Asked
 }
 
 // Receipt of a request. The index is below 8, as a set of zones has 8 bits.
-pub fn request(z: Local, me: u8, set: u8) -> Asked
+pub fn request(z: Local, me: u8, set: u8) -> Requesting
     requires { ⌜ me < mostZones ⌝ }
     ensures { λ r. ⌜ r ≡ requestedBy me set z ⌝ }
 {
@@ -164,11 +170,11 @@ pub fn request(z: Local, me: u8, set: u8) -> Asked
         stock: z.stock,
         events: z.events,
     };
-    let mark = z.checkpoint;
-    match mark {
+    let checkpoint = z.checkpoint;
+    match checkpoint {
         Checkpoint::None => turn(z, now, me, set),
         Checkpoint::Mutable(kept) => turn(z, kept, me, set),
-        Checkpoint::Permanent(_) => Asked {
+        Checkpoint::Permanent(_) => Requesting {
             local: z,
             to: 0,
             carried: 0,
@@ -177,7 +183,7 @@ pub fn request(z: Local, me: u8, set: u8) -> Asked
 }
 
 // Start: a permanent checkpoint of this moment, whatever stood before. The index is below 8, as a set of zones has 8 bits.
-pub fn start(z: Local, me: u8) -> Asked
+pub fn start(z: Local, me: u8) -> Requesting
     requires { ⌜ me < mostZones ⌝ }
     ensures { λ r. ⌜ r ≡ startedBy me z ⌝ }
 {

@@ -15,8 +15,8 @@ use Rattle.rules.specs.Cut.{May, Allowed, run, Complete, Cut, shownBy, snapshot
 use Rattle.rules.specs.Limits.{mostCars}
 use Rattle.rules.specs.Questions.{Question, question, ask, Among, index}
 use Rattle.rules.specs.Sets.{has, nobody, within}
-use Rattle.rules.specs.Site.{Item, message, request, Site, sendS, popS, askS, receiveS, turnS, requestS, startS, takeS, Call, send, receive, start, stepS, openS}
-use Rattle.rules.specs.Zone.{isMarked, isPermanent, opened, sent, received, started, requested, asked, carried}
+use Rattle.rules.specs.Site.{Item, message, request, Site, sendS, popS, requestAllS, receiveS, turnS, requestS, startS, takeS, Call, send, receive, start, stepS, openS}
+use Rattle.rules.specs.Zone.{hasCheckpoint, isPermanent, opened, sent, received, started, requested, targets, carried}
 use Rattle.rules.specs.declared.Checkpoint.{Checkpoint}
 use Rattle.rules.specs.declared.Checkpoint.the-variants.{None, Mutable, Permanent}
 use Rattle.rules.specs.declared.Local.{Local}
@@ -27,11 +27,11 @@ use Rattle.rules.proofs.SetLaws.{has-nobody}
 use Rattle.rules.proofs.History.{History, openH, initiatorAfter, stepH}
 use Rattle.rules.proofs.Kept.{Fresh, fresh-open, fresh-call}
 use Rattle.rules.proofs.Consistency.{consistent}
-use Rattle.local.specs.Asked.{askedAs, requestedBy, startedBy}
-use Rattle.zone.specs.Zone.{localOf, withLocal, isSound, isOther, hasRoom, refused, accepted, asking, sendStep, receiveStep, requestStep, startStep}
+use Rattle.local.specs.Requesting.{requestingAs, requestedBy, startedBy}
+use Rattle.zone.specs.Zone.{localOf, withLocal, isZoneSound, isOther, hasRoom, refused, accepted, requestingStep, sendStep, receiveStep, requestStep, startStep}
 use Rattle.zone.specs.declared.Step.{Step}
 use Rattle.zone.specs.declared.Zone.{Zone}
-use Rattle.network.specs.Network.{Network, openNetwork, takeStep, answer, isAccepted, asks, popped, stored, storedIf, made, after, acceptedCalls, starts, siteOf}
+use Rattle.network.specs.Network.{Network, openNetwork, takeStep, answer, isAccepted, sendsRequests, withoutFirst, stored, storedIf, made, after, acceptedCalls, starts, networkSite}
 
 -- Where no question has the number 0, an answer with refusal 0 is what the questions guard, and all of them were answered yes.
 pub ask-accepted : {A : Type 0} (number : A → ℕ) (qs : List Question) (f : ℕ → A) (x : A) → ((m : ℕ) → number (f m) ≡ m)
@@ -47,31 +47,31 @@ passed : (qs : List Question) (z : Zone) (x : Step) → lacks 0 (numbers qs) ≡
 passed qs z x n e = ask-accepted (λ (s : Step). s .refusal) qs (refused z) x (λ m. refl) n (eqb-true (ask qs (refused z) x .refusal) 0 e)
 
 send-step : (z : Zone) (to cars : ℕ) → eqb (sendStep z to cars .refusal) 0 ≡ true
-    → (sendStep z to cars ≡ accepted (withLocal z (sent cars (localOf z))) (isMarked (z .checkpoint)) nobody nobody) × (cars ≤ z .stock)
+    → (sendStep z to cars ≡ accepted (withLocal z (sent cars (localOf z))) (hasCheckpoint (z .checkpoint)) nobody nobody) × (cars ≤ z .stock)
 unfolding sendStep
 send-step z to cars e =
     let r = passed
-    (question 1 (isSound z) ∷ question 5 (isOther z to) ∷ question 6 (hasRoom z) ∷ question 7 (leb cars (z .stock)) ∷ [])
-    z (accepted (withLocal z (sent cars (localOf z))) (isMarked (z .checkpoint)) nobody nobody) refl e in
+    (question 1 (isZoneSound z) ∷ question 5 (isOther z to) ∷ question 6 (hasRoom z) ∷ question 7 (leb cars (z .stock)) ∷ [])
+    z (accepted (withLocal z (sent cars (localOf z))) (hasCheckpoint (z .checkpoint)) nobody nobody) refl e in
     (r .1, leb-true cars (z .stock) (r .0 .1 .1 .1 .0))
 
 receive-step : (z : Zone) (from cars : ℕ) (flag : Bool) → eqb (receiveStep z from cars flag .refusal) 0 ≡ true
     → receiveStep z from cars flag ≡ accepted (withLocal z (received (index from) cars flag (localOf z))) false nobody nobody
 unfolding receiveStep
 receive-step z from cars flag e = passed
-    (question 1 (isSound z) ∷ question 5 (isOther z from) ∷ question 6 (hasRoom z) ∷ question 20 (leb (z .stock + cars) mostCars) ∷ [])
+    (question 1 (isZoneSound z) ∷ question 5 (isOther z from) ∷ question 6 (hasRoom z) ∷ question 20 (leb (z .stock + cars) mostCars) ∷ [])
     z (accepted (withLocal z (received (index from) cars flag (localOf z))) false nobody nobody) refl e .1
 
 request-step : (z : Zone) (set : ℕ) → eqb (requestStep z set .refusal) 0 ≡ true
-    → requestStep z set ≡ asking z (requestedBy (index (z .number)) set (localOf z))
+    → requestStep z set ≡ requestingStep z (requestedBy (index (z .number)) set (localOf z))
 unfolding requestStep
-request-step z set e = passed (question 1 (isSound z) ∷ question 5 (within set (z .count)) ∷ []) z
-    (asking z (requestedBy (index (z .number)) set (localOf z))) refl e .1
+request-step z set e = passed (question 1 (isZoneSound z) ∷ question 5 (within set (z .count)) ∷ []) z
+    (requestingStep z (requestedBy (index (z .number)) set (localOf z))) refl e .1
 
-start-step : (z : Zone) → eqb (startStep z .refusal) 0 ≡ true → startStep z ≡ asking z (startedBy (index (z .number)) (localOf z))
+start-step : (z : Zone) → eqb (startStep z .refusal) 0 ≡ true → startStep z ≡ requestingStep z (startedBy (index (z .number)) (localOf z))
 unfolding startStep
-start-step z e = passed (question 1 (isSound z) ∷ question 11 (not (isMarked (z .checkpoint))) ∷ []) z
-    (asking z (startedBy (index (z .number)) (localOf z))) refl e .1
+start-step z e = passed (question 1 (isZoneSound z) ∷ question 11 (not (hasCheckpoint (z .checkpoint))) ∷ []) z
+    (requestingStep z (startedBy (index (z .number)) (localOf z))) refl e .1
 
 -- The zone at index k has the number k + 1.
 abbrev pub Numbered : Network → Type 0
@@ -86,14 +86,14 @@ changed : (net : Network) (a : ℕ) (z : Zone) (g : Local → Local) → localOf
 changed net a z g e k = on-map-at localOf (eqb k a) (λ y. z) g (net .zone k)
     (λ q. e ∙ ap (λ (i : ℕ). g (localOf (net .zone i))) (sym (eqb-true k a q)))
 
--- Where nobody is asked, no channel changes.
-unasked : (b i j set : ℕ) (l : List Item) → on (eqb i b && has nobody j) (join (request set)) l ≡ l
-unasked b i j set l = rw (has-nobody j, and-false (eqb i b))
+-- Where there is no target, no channel changes.
+no-targets : (b i j set : ℕ) (l : List Item) → on (eqb i b && has nobody j) (join (request set)) l ≡ l
+no-targets b i j set l = rw (has-nobody j, and-false (eqb i b))
 
--- Where nobody is asked, what requests would carry does not matter.
-asked-channel : (b i j to set : ℕ) (l : List Item)
+-- Where there is no target, what requests would carry does not matter.
+targets-channel : (b i j to set : ℕ) (l : List Item)
     → on (eqb i b && has to j) (join (request (cond (eqb to 0) 0 set))) l ≡ on (eqb i b && has to j) (join (request set)) l
-asked-channel b i j to set l = go (eqb to 0) refl
+targets-channel b i j to set l = go (eqb to 0) refl
   where
     go : (p : Bool) → eqb to 0 ≡ p
         → on (eqb i b && has to j) (join (request (cond p 0 set))) l ≡ on (eqb i b && has to j) (join (request set)) l
@@ -102,62 +102,62 @@ asked-channel b i j to set l = go (eqb to 0) refl
 
 -- A message is sent.
 sent-site : (net : Network) (a b cars : ℕ) → eqb (sendStep (net .zone a) (b + 1) cars .refusal) 0 ≡ true
-    → siteOf (stored (send a b cars) (sendStep (net .zone a) (b + 1) cars) net) ≡ sendS a b cars (siteOf net)
+    → networkSite (stored (send a b cars) (sendStep (net .zone a) (b + 1) cars) net) ≡ sendS a b cars (networkSite net)
 sent-site net a b cars e =
-    ap (λ (x : Step). siteOf (stored (send a b cars) x net)) (send-step (net .zone a) (b + 1) cars e .0)
+    ap (λ (x : Step). networkSite (stored (send a b cars) x net)) (send-step (net .zone a) (b + 1) cars e .0)
     ∙ site≡ _ _ (changed net a _ (sent cars) refl) (λ i j. refl)
 
 -- A message is received.
 received-site : (net : Network) (a b cars : ℕ) (flag : Bool) → eqb (receiveStep (net .zone b) (a + 1) cars flag .refusal) 0 ≡ true
-    → siteOf (stored (receive a b) (receiveStep (net .zone b) (a + 1) cars flag) net) ≡ receiveS a b cars flag (siteOf net)
+    → networkSite (stored (receive a b) (receiveStep (net .zone b) (a + 1) cars flag) net) ≡ receiveS a b cars flag (networkSite net)
 received-site net a b cars flag e =
-    ap (λ (x : Step). siteOf (stored (receive a b) x net)) (receive-step (net .zone b) (a + 1) cars flag e)
+    ap (λ (x : Step). networkSite (stored (receive a b) x net)) (receive-step (net .zone b) (a + 1) cars flag e)
     ∙ site≡ _ _
     (changed net b _ (received a cars flag)
     (ap (λ (k : ℕ). received k cars flag (localOf (net .zone b))) (index-of a (a + 1) refl)))
-    (λ i j. unasked b i j nobody (on (eqb i a && eqb j b) tail (net .channel i j)))
+    (λ i j. no-targets b i j nobody (on (eqb i a && eqb j b) tail (net .channel i j)))
 
--- A zone takes a permanent checkpoint ("turns firm") by the change g, and asks.
-asking-site : (net : Network) (b set : ℕ) (g : Local → Local) → net .zone b .number ≡ b + 1
-    → siteOf (asks b (asking (net .zone b)
-    (askedAs (g (localOf (net .zone b))) (asked (index (net .zone b .number)) set (localOf (net .zone b))) (carried set (localOf (net .zone b))))) net)
-    ≡ askS b g (asked b set (localOf (net .zone b))) (carried set (localOf (net .zone b))) (siteOf net)
-asking-site net b set g e =
-    ap (λ (k : ℕ). siteOf (asks b (asking (net .zone b)
-    (askedAs (g (localOf (net .zone b))) (asked k set (localOf (net .zone b))) (carried set (localOf (net .zone b))))) net))
+-- A zone takes a permanent checkpoint ("turns firm") by the change g, and sends requests.
+requests-site : (net : Network) (b set : ℕ) (g : Local → Local) → net .zone b .number ≡ b + 1
+    → networkSite (sendsRequests b (requestingStep (net .zone b)
+    (requestingAs (g (localOf (net .zone b))) (targets (index (net .zone b .number)) set (localOf (net .zone b))) (carried set (localOf (net .zone b))))) net)
+    ≡ requestAllS b g (targets b set (localOf (net .zone b))) (carried set (localOf (net .zone b))) (networkSite net)
+requests-site net b set g e =
+    ap (λ (k : ℕ). networkSite (sendsRequests b (requestingStep (net .zone b)
+    (requestingAs (g (localOf (net .zone b))) (targets k set (localOf (net .zone b))) (carried set (localOf (net .zone b))))) net))
     (index-of b (net .zone b .number) e)
     ∙ site≡ _ _ (changed net b _ g refl)
-    (λ i j. asked-channel b i j (asked b set (localOf (net .zone b))) (carried set (localOf (net .zone b))) (net .channel i j))
+    (λ i j. targets-channel b i j (targets b set (localOf (net .zone b))) (carried set (localOf (net .zone b))) (net .channel i j))
 
 -- A request is received: "a firm zone drops it".
 requested-site : (net : Network) (a b set : ℕ) → Numbered net → eqb (requestStep (net .zone b) set .refusal) 0 ≡ true
-    → siteOf (stored (receive a b) (requestStep (net .zone b) set) net) ≡ requestS a b set (siteOf net)
+    → networkSite (stored (receive a b) (requestStep (net .zone b) set) net) ≡ requestS a b set (networkSite net)
 unfolding requestedBy
 requested-site net a b set num e =
-    ap (λ (x : Step). siteOf (stored (receive a b) x net)) (request-step (net .zone b) set e)
+    ap (λ (x : Step). networkSite (stored (receive a b) x net)) (request-step (net .zone b) set e)
     ∙ go (isPermanent (net .zone b .checkpoint))
   where
     go : (p : Bool)
-        → siteOf (asks b (asking (net .zone b)
-        (cond p (askedAs (localOf (net .zone b)) nobody nobody)
-        (askedAs (requested (localOf (net .zone b))) (asked (index (net .zone b .number)) set (localOf (net .zone b)))
+        → networkSite (sendsRequests b (requestingStep (net .zone b)
+        (cond p (requestingAs (localOf (net .zone b)) nobody nobody)
+        (requestingAs (requested (localOf (net .zone b))) (targets (index (net .zone b .number)) set (localOf (net .zone b)))
         (carried set (localOf (net .zone b))))))
-        (popped a b net))
-        ≡ on (not p) (turnS b set) (popS a b (siteOf net))
+        (withoutFirst a b net))
+        ≡ on (not p) (turnS b set) (popS a b (networkSite net))
     go true = site≡ _ _ (λ k. changed net b _ (λ y. y) refl k ∙ idle (eqb k b) (localOf (net .zone k)))
-        (λ i j. unasked b i j nobody (on (eqb i a && eqb j b) tail (net .channel i j)))
+        (λ i j. no-targets b i j nobody (on (eqb i a && eqb j b) tail (net .channel i j)))
       where
         idle : (p : Bool) (y : Local) → on p (λ y. y) y ≡ y
         idle true y = refl
         idle false y = refl
-    go false = asking-site (popped a b net) b set requested (num b)
+    go false = requests-site (withoutFirst a b net) b set requested (num b)
 
 -- A recording is started.
 started-site : (net : Network) (a : ℕ) → Numbered net → eqb (startStep (net .zone a) .refusal) 0 ≡ true
-    → siteOf (stored (start a) (startStep (net .zone a)) net) ≡ startS a (siteOf net)
+    → networkSite (stored (start a) (startStep (net .zone a)) net) ≡ startS a (networkSite net)
 unfolding startedBy
 started-site net a num e =
-    ap (λ (x : Step). siteOf (stored (start a) x net)) (start-step (net .zone a) e) ∙ asking-site net a nobody started (num a)
+    ap (λ (x : Step). networkSite (stored (start a) x net)) (start-step (net .zone a) e) ∙ requests-site net a nobody started (num a)
 
 -- A call that is not accepted changes nothing.
 pub refused-kept : (c : Call) (net : Network) → isAccepted (answer c net) ≡ false → made c net ≡ net
@@ -168,27 +168,27 @@ refused-kept c net = go (answer c net)
     go (some x) e = on-false (eqb (x .refusal) 0) (stored c x) net e
 
 -- An accepted call does to the network what the rules say of the site that it stands for.
-pub refine : (c : Call) (net : Network) → Numbered net → isAccepted (answer c net) ≡ true → siteOf (made c net) ≡ stepS c (siteOf net)
+pub refine : (c : Call) (net : Network) → Numbered net → isAccepted (answer c net) ≡ true → networkSite (made c net) ≡ stepS c (networkSite net)
 refine (send a b cars) net num e =
     let x = sendStep (net .zone a) (b + 1) cars in
-    ap siteOf (on-true (eqb (x .refusal) 0) (stored (send a b cars) x) net e) ∙ sent-site net a b cars e
+    ap networkSite (on-true (eqb (x .refusal) 0) (stored (send a b cars) x) net e) ∙ sent-site net a b cars e
 refine (receive a b) net num e = go (net .channel a b) e
   where
     go : (l : List Item) → isAccepted (takeStep (a + 1) l (net .zone b)) ≡ true
-        → siteOf (storedIf (receive a b) (takeStep (a + 1) l (net .zone b)) net) ≡ takeS a b l (siteOf net)
+        → networkSite (storedIf (receive a b) (takeStep (a + 1) l (net .zone b)) net) ≡ takeS a b l (networkSite net)
     go [] e = absurd (false≢true e)
     go (message cars flag ∷ l) e =
         let x = receiveStep (net .zone b) (a + 1) cars flag in
-        ap siteOf (on-true (eqb (x .refusal) 0) (stored (receive a b) x) net e) ∙ received-site net a b cars flag e
+        ap networkSite (on-true (eqb (x .refusal) 0) (stored (receive a b) x) net e) ∙ received-site net a b cars flag e
     go (request set ∷ l) e =
         let x = requestStep (net .zone b) set in
-        ap siteOf (on-true (eqb (x .refusal) 0) (stored (receive a b) x) net e) ∙ requested-site net a b set num e
+        ap networkSite (on-true (eqb (x .refusal) 0) (stored (receive a b) x) net e) ∙ requested-site net a b set num e
 refine (start a) net num e =
     let x = startStep (net .zone a) in
-    ap siteOf (on-true (eqb (x .refusal) 0) (stored (start a) x) net e) ∙ started-site net a num e
+    ap networkSite (on-true (eqb (x .refusal) 0) (stored (start a) x) net e) ∙ started-site net a num e
 
 -- What an accepted call shows: the stock covers the cars; the channel holds an item. A start shows only of its own
--- zone that it is unmarked, so that nothing is claimed of it here.
+-- zone that it has no checkpoint, so that nothing is claimed of it here.
 abbrev pub Shows : Call → Network → Type 0
 Shows (send a b cars) net = cars ≤ net .zone a .stock
 Shows (receive a b) net = net .channel a b ≡ [] → ⊥
@@ -245,20 +245,20 @@ abbrev begun : Option ℕ → ℕ
 begun none = 0
 begun (some a) = 1
 
-unmarked-mutable : (k : Checkpoint) → isMarked k ≡ false → isPermanent k ≡ false
-unmarked-mutable None e = refl
-unmarked-mutable (Mutable s) e = refl
-unmarked-mutable (Permanent s) e = e
+no-checkpoint-not-permanent : (k : Checkpoint) → hasCheckpoint k ≡ false → isPermanent k ≡ false
+no-checkpoint-not-permanent None e = refl
+no-checkpoint-not-permanent (Mutable s) e = refl
+no-checkpoint-not-permanent (Permanent s) e = e
 
 -- An accepted call is one that the rules allow, where no start is a second one.
-allowed-call : (c : Call) (rest : List Call) (net : Network) (h : History) → Fresh h → siteOf net ≡ h .now
+allowed-call : (c : Call) (rest : List Call) (net : Network) (h : History) → Fresh h → networkSite net ≡ h .now
     → begun (h .initiator) + starts (c ∷ rest) ≤ 1 → Shows c net → May c (h .now)
 allowed-call (send a b cars) rest net h f e one w = subst (May (send a b cars)) e w
 allowed-call (receive a b) rest net h f e one w = subst (May (receive a b)) e w
 allowed-call (start a) rest net h f e one w = go (h .initiator) refl one
   where
     go : (o : Option ℕ) → h .initiator ≡ o → begun o + suc (starts rest) ≤ 1 → May (start a) (h .now)
-    go none q one = λ z. unmarked-mutable (h .now .zone z .checkpoint) (f .unmarked q z)
+    go none q one = λ z. no-checkpoint-not-permanent (h .now .zone z .checkpoint) (f .no-checkpoint q z)
     go (some x) q one = absurd (omega arith)
 
 -- The starts that are left, after an accepted call.
@@ -270,28 +270,28 @@ one-left (start a) rest (some x) one = absurd (omega arith)
 
 -- The network follows the rules over its accepted calls.
 abbrev Follows : List Call → Network → Site → Type 0
-Follows cs net s = Allowed (acceptedCalls cs net) s × (siteOf (after cs net) ≡ run (acceptedCalls cs net) s)
+Follows cs net s = Allowed (acceptedCalls cs net) s × (networkSite (after cs net) ≡ run (acceptedCalls cs net) s)
 
-follows : (cs : List Call) (net : Network) (h : History) → Numbered net → Fresh h → siteOf net ≡ h .now
+follows : (cs : List Call) (net : Network) (h : History) → Numbered net → Fresh h → networkSite net ≡ h .now
     → begun (h .initiator) + starts (acceptedCalls cs net) ≤ 1 → Follows cs net (h .now)
 follows [] net h num f e one = (tt, e)
 follows (c ∷ cs) net h num f e one = go (λ t. follows cs (made c net) t (numbered net num c)) (isAccepted (answer c net)) refl one
   where
-    go : ((t : History) → Fresh t → siteOf (made c net) ≡ t .now → begun (t .initiator) + starts (acceptedCalls cs (made c net)) ≤ 1
+    go : ((t : History) → Fresh t → networkSite (made c net) ≡ t .now → begun (t .initiator) + starts (acceptedCalls cs (made c net)) ≤ 1
         → Follows cs (made c net) (t .now))
         → (p : Bool) → isAccepted (answer c net) ≡ p
         → begun (h .initiator) + starts (cons-if p c (acceptedCalls cs (made c net))) ≤ 1
         → Allowed (cons-if p c (acceptedCalls cs (made c net))) (h .now)
-        × (siteOf (after cs (made c net)) ≡ run (cons-if p c (acceptedCalls cs (made c net))) (h .now))
+        × (networkSite (after cs (made c net)) ≡ run (cons-if p c (acceptedCalls cs (made c net))) (h .now))
     go ih true q one =
         let may = allowed-call c (acceptedCalls cs (made c net)) net h f e one (shows c net q) in
         let r = ih (stepH c h) (fresh-call c h f may) (refine c net num q ∙ ap (stepS c) e)
         (one-left c (acceptedCalls cs (made c net)) (h .initiator) one) in
         ((may, r .0), r .1)
-    go ih false q one = ih h f (ap siteOf (refused-kept c net q) ∙ e) one
+    go ih false q one = ih h f (ap networkSite (refused-kept c net q) ∙ e) one
 
 -- The opening is that of the rules.
-opening : (n : ℕ) (o : Opening) → siteOf (openNetwork n o) ≡ openS o
+opening : (n : ℕ) (o : Opening) → networkSite (openNetwork n o) ≡ openS o
 opening n o = site≡ _ _ (λ k. ap (λ (i : ℕ). opened i (o .stocks k)) (index-of k (k + 1) refl)) (λ i j. refl)
 
 -- Whatever the zone count, the opening and the calls, if at most one start was accepted.
@@ -304,14 +304,14 @@ module _ (n : ℕ) (o : Opening) (cs : List Call) (one : starts (acceptedCalls c
   ones = acceptedCalls cs (openNetwork n o)
 
   -- The accepted calls are such as the rules allow, and lead the rules to the zones and channels that the network has.
-  pub network-follows : Allowed ones (openS o) × (siteOf net ≡ run ones (openS o))
+  pub network-follows : Allowed ones (openS o) × (networkSite net ≡ run ones (openS o))
   network-follows = follows cs (openNetwork n o) (openH o) (λ k. refl) (fresh-open o) (opening n o) (omega arith)
 
   -- So, when the recording is complete, what the rules show is a consistent cut of the accepted calls: demand 3 over the maker's own
   -- channels.
-  pub network-consistent : Complete (siteOf net) → Cut o ones (snapshot o ones)
+  pub network-consistent : Complete (networkSite net) → Cut o ones (snapshot o ones)
   network-consistent done = consistent o ones (network-follows .0) (subst Complete (network-follows .1) done)
 
   -- What the network's own zones show is what the rules show: the recorded zones, their events and stocks, and the lines by these events.
-  pub network-shows : shownBy o ones (siteOf net) ≡ snapshot o ones
+  pub network-shows : shownBy o ones (networkSite net) ≡ snapshot o ones
   network-shows = ap (shownBy o ones) (network-follows .1)

@@ -9,7 +9,7 @@ use borrow.Author.Tests.{leb-true}
 use Rattle.rules.specs.Opening.{Opening}
 use Rattle.rules.specs.Questions.{question, isCount, isOn}
 use Rattle.rules.specs.Site.{Item, message, request, Call, send, receive, start}
-use Rattle.zone.specs.Zone.{isSound, openedZone, openZone, sendStep, receiveStep, requestStep, startStep}
+use Rattle.zone.specs.Zone.{isZoneSound, openedZone, openZone, sendStep, receiveStep, requestStep, startStep}
 use Rattle.zone.specs.declared.Opening.{Opening as Opened}
 use Rattle.zone.specs.declared.Zone.{Zone}
 use Rattle.network.specs.Network.{Network, openNetwork, takeStep, answer, isAccepted, made, after}
@@ -30,8 +30,8 @@ stepOf (send a b cars) = a
 stepOf (receive a b) = b
 stepOf (start a) = a
 
-unsound : (z : Zone) (n k : ℕ) → z .number ≡ k + 1 → z .count ≡ n → n ≤ k → isSound z ≡ false
-unfolding isSound isOn
+unsound : (z : Zone) (n k : ℕ) → z .number ≡ k + 1 → z .count ≡ n → n ≤ k → isZoneSound z ≡ false
+unfolding isZoneSound isOn
 unsound z n k e f h =
     let q = above (leb (z .number) (z .count)) refl in
     rw (q, and-false (leb 1 (z .number)), and-false (isCount (z .count)))
@@ -40,17 +40,17 @@ unsound z n k e f h =
     above true q = let w = leb-true (z .number) (z .count) q in absurd (omega arith)
     above false q = refl
 
-refused-send : (z : Zone) (to cars : ℕ) → isSound z ≡ false → eqb (sendStep z to cars .refusal) 0 ≡ false
+refused-send : (z : Zone) (to cars : ℕ) → isZoneSound z ≡ false → eqb (sendStep z to cars .refusal) 0 ≡ false
 unfolding sendStep
 refused-send z to cars e = rw e
 
-refused-take : (z : Zone) (from : ℕ) (l : List Item) → isSound z ≡ false → isAccepted (takeStep from l z) ≡ false
+refused-take : (z : Zone) (from : ℕ) (l : List Item) → isZoneSound z ≡ false → isAccepted (takeStep from l z) ≡ false
 unfolding receiveStep requestStep
 refused-take z from [] e = refl
 refused-take z from (message cars flag ∷ l) e = rw e
 refused-take z from (request set ∷ l) e = rw e
 
-refused-start : (z : Zone) → isSound z ≡ false → eqb (startStep z .refusal) 0 ≡ false
+refused-start : (z : Zone) → isZoneSound z ≡ false → eqb (startStep z .refusal) 0 ≡ false
 unfolding startStep
 refused-start z e = rw e
 

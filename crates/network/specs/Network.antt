@@ -42,15 +42,15 @@ isAccepted none = false
 isAccepted (some x) = eqb (x .refusal) 0
 
 -- The next zone is stored, and a request, carrying the one set answered, joins the channel to each zone of the other.
-abbrev pub asks : ℕ → Step → Network → Network
-asks b x net = record {
+abbrev pub sendsRequests : ℕ → Step → Network → Network
+sendsRequests b x net = record {
   zone = λ k. on (eqb k b) (λ z. x .zone) (net .zone k);
   channel = λ i j. on (eqb i b && has (x .to) j) (join (request (x .carried))) (net .channel i j);
 }
 
 -- The first item leaves its channel.
-abbrev pub popped : ℕ → ℕ → Network → Network
-popped a b net = record { zone = net .zone; channel = λ i j. on (eqb i a && eqb j b) tail (net .channel i j) }
+abbrev pub withoutFirst : ℕ → ℕ → Network → Network
+withoutFirst a b net = record { zone = net .zone; channel = λ i j. on (eqb i a && eqb j b) tail (net .channel i j) }
 
 -- What the maker does with the answer to an accepted call: a message joins its channel with the flag ("marked bit") answered; an
 -- item that was received leaves its channel.
@@ -59,8 +59,8 @@ stored (send a b cars) x net = record {
   zone = λ k. on (eqb k a) (λ z. x .zone) (net .zone k);
   channel = λ i j. on (eqb i a && eqb j b) (join (message cars (x .flag))) (net .channel i j);
 }
-stored (receive a b) x net = asks b x (popped a b net)
-stored (start a) x net = asks a x net
+stored (receive a b) x net = sendsRequests b x (withoutFirst a b net)
+stored (start a) x net = sendsRequests a x net
 
 -- A refused call changes nothing.
 abbrev pub storedIf : Call → Option Step → Network → Network
@@ -88,5 +88,5 @@ starts (receive a b ∷ cs) = starts cs
 starts (start a ∷ cs) = suc (starts cs)
 
 -- The site of the rules that a network stands for. What is shown of its accepted calls is what the rules show: `snapshot`.
-abbrev pub siteOf : Network → Site
-siteOf net = record { zone = λ k. localOf (net .zone k); channel = net .channel }
+abbrev pub networkSite : Network → Site
+networkSite net = record { zone = λ k. localOf (net .zone k); channel = net .channel }

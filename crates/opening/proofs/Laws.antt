@@ -1,4 +1,4 @@
--- Stocks: a sum one step longer, and a list of 8 by its places.
+-- Stocks: a sum one step longer, and a list of 8 by its indices.
 use mathlib.Core.Path.{_≡_, refl, sym}
 use mathlib.Core.List.{List, [], _∷_}
 use Prim.Native.Nat.{ℕ, zero, suc, _+_}
@@ -15,7 +15,7 @@ sum-more [] (suc i) = refl
 sum-more (x ∷ xs) zero = omega arith
 sum-more (x ∷ xs) (suc i) = let h = sum-more xs i in omega arith
 
--- A list of 8 stocks is the list of what stands at its places.
-pub all-places : (xs : List ℕ) → length xs ≡ 8 → xs ≡ listBelow 8 (λ i. getD xs i 0)
-all-places xs e =
+-- A list of 8 stocks is the list of what stands at its indices.
+pub all-indices : (xs : List ℕ) → length xs ≡ 8 → xs ≡ listBelow 8 (λ i. getD xs i 0)
+all-indices xs e =
     ext-getD 0 xs (listBelow 8 (λ i. getD xs i 0)) e (λ j h. sym (list-at 8 (λ i. getD xs i 0) 0 j (omega arith)))

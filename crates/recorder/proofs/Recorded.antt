@@ -23,13 +23,13 @@ use Rattle.journal.proofs.Accepted.{read-tells, read-replayed}
 use Rattle.recording.proofs.Read.{read-whole}
 use Rattle.recording.specs.Journal.{recordJournal}
 use Rattle.words.proofs.ByteLaws.{words-length}
-use Rattle.journal.specs.InnerOwns.{ownNumbers}
+use Rattle.journal.specs.InnerOrdinals.{ordinalsOf}
 use Rattle.journal.specs.Writing.{isReplayed}
 use Rattle.recording.specs.Call.{snapshotOf, noRequests, recordCall}
 use Rattle.recording.specs.Layout.{joinBelow, zoneWords, itemWords, recordingBytes}
 use Rattle.recording.proofs.Bounds.{run-sound, items-few, events-few}
 use Rattle.recording.proofs.Zones.{wordsAt, firstRun, events-are, zone-words-are, item-words-are}
-use Rattle.items.specs.InnerItems.{allWords, wordsAt as itemsAtPlace}
+use Rattle.items.specs.InnerItems.{allWords, wordsAt as itemsAtIndex}
 use Rattle.recorder.specs.InnerWords.{zonesWords, shownEvents, itemsWords, recordedBytes, Fitting, sizedOutput, Replayed}
 use Rattle.rules.proofs.AskLaws.{numbers}
 use Rattle.run.specs.Calls.{answer}
@@ -38,14 +38,14 @@ use Rattle.run.specs.Opening.{openedRun}
 use Rattle.recording.specs.Journal.{recordJournal}
 use Rattle.run.specs.declared.Opening.{Opening}
 
-numbers-length : (ws : List ℕ) (r : Run) → length (ownNumbers ws r) ≡ length ws
-numbers-length [] r = refl
-numbers-length (w ∷ ws) r = ap suc (numbers-length ws _)
+ordinals-length : (ws : List ℕ) (r : Run) → length (ordinalsOf ws r) ≡ length ws
+ordinals-length [] r = refl
+ordinals-length (w ∷ ws) r = ap suc (ordinals-length ws _)
 
 module _ (r : Run) (w : WholeRun r) (e : isReplayed r ≡ true) where
-  -- The own-event numbers of the records.
-  abbrev pub numbersAt : List ℕ
-  numbersAt = ownNumbers (wordsAt r) (firstRun r)
+  -- The own-event ordinals of the records.
+  abbrev pub ordinalsAt : List ℕ
+  ordinalsAt = ordinalsOf (wordsAt r) (firstRun r)
 
   shown-at : (i : ℕ) → i < countOf (r .head) → getD (shownEvents (r .head)) i 0 ≡ eventsOf (zoneAt (r .head) i .checkpoint)
   unfolding shownEvents
@@ -53,15 +53,15 @@ module _ (r : Run) (w : WholeRun r) (e : isReplayed r ≡ true) where
       list-at 8 (λ j. cond (ltb j (countOf (r .head))) (eventsOf (zoneAt (r .head) j .checkpoint)) 0) 0 i (omega (arith, run-sound r w e .most))
       ∙ rw (lt-ltb i (countOf (r .head)) h)
 
-  items-are : itemWords (countOf (r .head)) (snapshotOf r) ≡ itemsWords (r .head) (wordsAt r) numbersAt
-  unfolding allWords itemsAtPlace
+  items-are : itemWords (countOf (r .head)) (snapshotOf r) ≡ itemsWords (r .head) (wordsAt r) ordinalsAt
+  unfolding allWords itemsAtIndex
   items-are = item-words-are r w e (shownEvents (r .head)) shown-at
 
   zones-are : joinBelow (countOf (r .head)) (zoneWords (snapshotOf r)) ≡ zonesWords (r .head)
   unfolding zonesWords
   zones-are = zone-words-are r w e
 
-  pub bytes-are : recordedBytes (r .head) (wordsAt r) numbersAt ≡ recordingBytes (termsOf (r .head)) (snapshotOf r)
+  pub bytes-are : recordedBytes (r .head) (wordsAt r) ordinalsAt ≡ recordingBytes (termsOf (r .head)) (snapshotOf r)
   unfolding recordedBytes recordingBytes
   bytes-are =
       ap₂ (λ (zs is : List ℕ). wordsBytes (headerOf (termsOf (r .head)) (length is) ∷ zs ++ is)) (sym zones-are) (sym items-are)
@@ -69,40 +69,40 @@ module _ (r : Run) (w : WholeRun r) (e : isReplayed r ≡ true) where
   records-length : length (wordsAt r) ≡ r .head .records
   records-length = length-take-le (r .head .records) (r .journal) (omega (arith, w .journal, run-sound r w e .records))
 
-  pub fitting : Fitting (r .head) (wordsAt r) numbersAt
+  pub fitting : Fitting (r .head) (wordsAt r) ordinalsAt
   fitting = record {
     fewest = omega (arith, run-sound r w e .fewest);
     most = run-sound r w e .most;
     events = λ i h. omega (arith, events-few r w e i, events-are r w e i h);
     records = omega (arith, records-length, run-sound r w e .records);
-    numbers = numbers-length (wordsAt r) (firstRun r);
+    numbers = ordinals-length (wordsAt r) (firstRun r);
     items = omega (arith, ap length items-are, items-few r w e, run-sound r w e .records);
   }
 
-  -- The numbers stand at the front of what was lent for them.
-  pub numbers-records : length numbersAt ≡ r .head .records
-  numbers-records = numbers-length (wordsAt r) (firstRun r) ∙ records-length
+  -- The ordinals stand at the front of what was lent for them.
+  pub ordinals-records : length ordinalsAt ≡ r .head .records
+  ordinals-records = ordinals-length (wordsAt r) (firstRun r) ∙ records-length
 
-  pub numbers-front : (rest : List ℕ) → take (r .head .records) (numbersAt ++ rest) ≡ numbersAt
-  numbers-front rest = take-at numbersAt rest (r .head .records) numbers-records
+  pub ordinals-front : (rest : List ℕ) → take (r .head .records) (ordinalsAt ++ rest) ≡ ordinalsAt
+  ordinals-front rest = take-at ordinalsAt rest (r .head .records) ordinals-records
 
   -- After questions 1, 12 and 13 what is left is question 14 and these bytes.
-  pub sized-is : (lent ws ns : List ℕ) → ws ≡ wordsAt r → ns ≡ numbersAt → hasStarted (r .head) ≡ true
+  pub sized-is : (lent ws ns : List ℕ) → ws ≡ wordsAt r → ns ≡ ordinalsAt → hasStarted (r .head) ≡ true
       → noRequests (countOf (r .head)) (r .channels) ≡ true
       → sizedOutput lent (recordedBytes (r .head) ws ns) ≡ recordCall r lent
   unfolding recordCall sizedOutput
   sized-is lent ws ns p q started free = rw (p, q, bytes-are, e, started, free)
 
-  -- What was lent for the numbers has them at its front, and its length.
-  pub replayed-from : (owns after : List ℕ) → length owns ≡ 1000 → after ≡ numbersAt ++ drop (r .head .records) owns
+  -- What was lent for the ordinals has them at its front, and its length.
+  pub replayed-from : (ordinals after : List ℕ) → length ordinals ≡ 1000 → after ≡ ordinalsAt ++ drop (r .head .records) ordinals
       → Replayed r after × (length after ≡ 1000)
-  replayed-from owns after l q = (
-    record { whole = w; asked = e; numbers = ap (take (r .head .records)) q ∙ numbers-front _ },
+  replayed-from ordinals after l q = (
+    record { whole = w; asked = e; numbers = ap (take (r .head .records)) q ∙ ordinals-front _ },
     ap length q ∙ omega (
       arith,
-      length-append numbersAt (drop (r .head .records) owns),
-      length-drop (r .head .records) owns,
-      numbers-records,
+      length-append ordinalsAt (drop (r .head .records) ordinals),
+      length-drop (r .head .records) ordinals,
+      ordinals-records,
       run-sound r w e .records,
     ),
   )
@@ -124,50 +124,50 @@ pub refused-1 : (r : Run) (lent : List ℕ) (w : Written) → isReplayed r ≡ f
 unfolding recordCall
 refused-1 r lent w e q = rw e (q, refl)
 
--- The records and the numbers that are passed on are those of the run.
-module _ (r : Run) (owns : List ℕ) (p : Replayed r owns) where
+-- The records and the ordinals that are passed on are those of the run.
+module _ (r : Run) (ordinals : List ℕ) (p : Replayed r ordinals) where
   less-none : r .head .records - 0 ≡ r .head .records
   less-none = omega arith
 
   words-are : take (r .head .records - 0) (r .journal) ≡ wordsAt r
   words-are = ap (λ (n : ℕ). take n (r .journal)) less-none
 
-  numbers-are : take (r .head .records - 0) owns ≡ numbersAt r (p .whole) (p .asked)
-  numbers-are = ap (λ (n : ℕ). take n owns) less-none ∙ p .numbers
+  ordinals-are : take (r .head .records - 0) ordinals ≡ ordinalsAt r (p .whole) (p .asked)
+  ordinals-are = ap (λ (n : ℕ). take n ordinals) less-none ∙ p .numbers
 
-  pub enough-owns : r .head .records ≤ length owns
-  enough-owns = omega (arith, length-take (r .head .records) owns, ap length (p .numbers), numbers-records r (p .whole) (p .asked))
+  pub enough-ordinals : r .head .records ≤ length ordinals
+  enough-ordinals = omega (arith, length-take (r .head .records) ordinals, ap length (p .numbers), ordinals-records r (p .whole) (p .asked))
 
   pub enough-words : r .head .records ≤ length (r .journal)
   enough-words = omega (arith, p .whole .journal, run-sound r (p .whole) (p .asked) .records)
 
-  pub parts-fit : Fitting (r .head) (take (r .head .records - 0) (r .journal)) (take (r .head .records - 0) owns)
+  pub parts-fit : Fitting (r .head) (take (r .head .records - 0) (r .journal)) (take (r .head .records - 0) ordinals)
   parts-fit =
-      subst (λ (ws : List ℕ). Fitting (r .head) ws (take (r .head .records - 0) owns)) (sym words-are)
-      (subst (Fitting (r .head) (wordsAt r)) (sym numbers-are) (fitting r (p .whole) (p .asked)))
+      subst (λ (ws : List ℕ). Fitting (r .head) ws (take (r .head .records - 0) ordinals)) (sym words-are)
+      (subst (Fitting (r .head) (wordsAt r)) (sym ordinals-are) (fitting r (p .whole) (p .asked)))
 
   pub parts-written : (lent : List ℕ) → hasStarted (r .head) ≡ true → noRequests (countOf (r .head)) (r .channels) ≡ true
-      → sizedOutput lent (recordedBytes (r .head) (take (r .head .records - 0) (r .journal)) (take (r .head .records - 0) owns)) ≡ recordCall r lent
-  parts-written lent s f = sized-is r (p .whole) (p .asked) lent _ _ words-are numbers-are s f
+      → sizedOutput lent (recordedBytes (r .head) (take (r .head .records - 0) (r .journal)) (take (r .head .records - 0) ordinals)) ≡ recordCall r lent
+  parts-written lent s f = sized-is r (p .whole) (p .asked) lent _ _ words-are ordinals-are s f
 
 -- The same of a run that was just read.
 module _ (bytes : List ℕ) (t : Reading) (q : t ≡ readCall bytes) (z : t .refusal ≡ 0) where
   accepted : readCall bytes .refusal ≡ 0
   accepted = ap (λ (x : Reading). x .refusal) (sym q) ∙ z
 
-  pub read-from : (owns after : List ℕ) → length owns ≡ 1000
-      → after ≡ ownNumbers (recordsIn bytes) (openedRun (openingIn bytes)) ++ drop (recordsOf bytes) owns
+  pub read-from : (ordinals after : List ℕ) → length ordinals ≡ 1000
+      → after ≡ ordinalsOf (recordsIn bytes) (openedRun (openingIn bytes)) ++ drop (recordsOf bytes) ordinals
       → Replayed (t .run) after × (length after ≡ 1000)
-  read-from owns after l e =
+  read-from ordinals after l e =
       let r = readCall bytes .run in
       let w = read-whole bytes [] accepted in
       let k = read-replayed bytes accepted in
       let h = read-tells bytes accepted in
       let n : recordsOf bytes ≡ r .head .records = sym (words-length bytes _ _) ∙ sym (h .number) in
-      let f : after ≡ numbersAt r w k ++ drop (r .head .records) owns =
-      e ∙ ap₂ (λ (ws : List ℕ) (o : Opening). ownNumbers ws (openedRun o) ++ drop (recordsOf bytes) owns) (sym (h .records)) (sym (h .opening))
-      ∙ ap (λ (n : ℕ). numbersAt r w k ++ drop n owns) n in
-      subst (λ (x : Reading). Replayed (x .run) after × (length after ≡ 1000)) (sym q) (replayed-from r w k owns after l f)
+      let f : after ≡ ordinalsAt r w k ++ drop (r .head .records) ordinals =
+      e ∙ ap₂ (λ (ws : List ℕ) (o : Opening). ordinalsOf ws (openedRun o) ++ drop (recordsOf bytes) ordinals) (sym (h .records)) (sym (h .opening))
+      ∙ ap (λ (n : ℕ). ordinalsAt r w k ++ drop n ordinals) n in
+      subst (λ (x : Reading). Replayed (x .run) after × (length after ≡ 1000)) (sym q) (replayed-from r w k ordinals after l f)
 
   pub journal-recorded : (lent : List ℕ) (w : Written) (out : List ℕ) → w ≡ recordCall (t .run) lent .answer → out ≡ recordCall (t .run) lent .bytes
       → (record { refusal = w .refusal; position = 0; written = w .written } ≡ recordJournal bytes lent .answer)

@@ -14,7 +14,7 @@ use Rattle.rules.proofs.Tests.{Same, same?}
 use Rattle.run.specs.State.{zoneAt, countOf}
 use Rattle.run.proofs.BelowLaws.{length-below, list-at}
 use Rattle.recording.specs.Layout.{joinBelow}
-use Rattle.recorder.specs.InnerWords.{markWords, zonesWords}
+use Rattle.recorder.specs.InnerWords.{checkpointWords, zonesWords}
 use Rattle.run.specs.declared.Head.{Head}
 use Rattle.run.specs.Opening.{stockAt}
 
@@ -50,14 +50,14 @@ module _ (f : ℕ → ℕ) where
       (λ j h. more j ∙ sym (list-at m (part n) 0 j (omega arith)))
 
 -- Two words a zone.
-pub zones-size : (h : Head) (i : ℕ) → length (joinBelow i (λ j. markWords (zoneAt h j .checkpoint) (stockAt (h .opening) j))) ≡ 2 * i
+pub zones-size : (h : Head) (i : ℕ) → length (joinBelow i (λ j. checkpointWords (zoneAt h j .checkpoint) (stockAt (h .opening) j))) ≡ 2 * i
 zones-size h zero = refl
 zones-size h (suc i) =
     let q = zones-size h i in
     omega (
       arith,
-      length-append (joinBelow i (λ j. markWords (zoneAt h j .checkpoint) (stockAt (h .opening) j)))
-          (markWords (zoneAt h i .checkpoint) (stockAt (h .opening) i)),
+      length-append (joinBelow i (λ j. checkpointWords (zoneAt h j .checkpoint) (stockAt (h .opening) j)))
+          (checkpointWords (zoneAt h i .checkpoint) (stockAt (h .opening) i)),
     )
 
 pub zones-length : (h : Head) → length (zonesWords h) ≡ 2 * countOf h

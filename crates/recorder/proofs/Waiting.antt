@@ -1,12 +1,12 @@
 -- Whether a channel holds a request, by its words one after another.
 use mathlib.Core.Path.{_≡_, refl, sym, _∙_, ap}
-use mathlib.Core.Bool.{Bool, true, false, _&&_, _||_, not}
+use mathlib.Core.Bool.{Bool, true, false, _||_, not}
 use mathlib.Core.List.{List, [], _∷_, map}
 use Prim.Native.Nat.{ℕ, zero, suc, _+_, _*_, _<_, min, _≤_}
 use native.Mathlib.Numerals.{add-one}
 use native.Mathlib.Omega.{arith}
 use lib.Dec.{leb, ltb}
-use lib.ListN.{getD, take, drop, length-take, List·getD-eq-default}
+use lib.ListN.{getD, take, drop, length-take}
 use lib.Seq.{getD-take, getD-drop, take-all}
 use borrow.Author.Tests.{le-leb, lt-leb, ltb-true, ltb-false}
 use Rattle.rules.specs.Site.{Item, waits}
@@ -57,7 +57,7 @@ pub waits-all : (l : Channels) (k p n : ℕ) → n ≡ min (lenOf l k) 16 → n 
 waits-all l k p n e h =
     take-all p (wordsOn l k) (omega (arith, length-take (lenOf l k) (row (l .items) k), length-take 16 (drop (k * 16) (l .items))))
 
--- A place without a channel of the site, an empty channel, and one that is looked at.
+-- An index without a channel of the site, an empty channel, and one that is looked at.
 pub quiet-empty : (count : ℕ) (l : Channels) (k : ℕ) → lenOf l k ≡ 0 → true ≡ quietAt count l k
 quiet-empty count l k e = rw e (or-true (isChannel count k))
   where

@@ -23,21 +23,21 @@ use Rattle.run.specs.Opening.{stockAt, openedRun}
 use Rattle.rules.specs.Site.{waits}
 use Rattle.run.specs.Claims.{WholeRun}
 use Rattle.run.specs.declared.Run.{Run}
-use Rattle.journal.specs.InnerOwns.{ownNumbers}
+use Rattle.journal.specs.InnerOrdinals.{ordinalsOf}
 use Rattle.channel.specs.declared.Channels.{Channels}
 
 -- The two words of a zone, of its checkpoint and its opening stock, and those of all zones.
-abbrev pub markWords : Checkpoint → ℕ → List ℕ
-markWords mark opening = (cond (isPermanent mark) 32768 0 + eventsOf mark) ∷ stockOf mark opening ∷ []
+abbrev pub checkpointWords : Checkpoint → ℕ → List ℕ
+checkpointWords checkpoint opening = (cond (isPermanent checkpoint) 32768 0 + eventsOf checkpoint) ∷ stockOf checkpoint opening ∷ []
 
 unfoldable pub zonesWords : Head → List ℕ
-zonesWords h = joinBelow (countOf h) (λ i. markWords (zoneAt h i .checkpoint) (stockAt (h .opening) i))
+zonesWords h = joinBelow (countOf h) (λ i. checkpointWords (zoneAt h i .checkpoint) (stockAt (h .opening) i))
 
 -- The events shown for each zone; 0 for a zone that the site does not have.
 unfoldable pub shownEvents : Head → List ℕ
 shownEvents h = listBelow mostZones (λ i. cond (ltb i (countOf h)) (eventsOf (zoneAt h i .checkpoint)) 0)
 
--- The words of the items, over the records and their own-event numbers, and all words of the recording.
+-- The words of the items, over the records and their own-event ordinals, and all words of the recording.
 abbrev pub itemsWords : Head → List ℕ → List ℕ → List ℕ
 itemsWords h ws ns = allWords (countOf h) (shownEvents h) ws ns
 
@@ -56,13 +56,13 @@ pub record Fitting (h : Head) (ws ns : List ℕ) : Type 0 where
   pub numbers : length ns ≡ length ws
   pub items : length (itemsWords h ws ns) ≤ mostRecords
 
--- Question 1 passes the run, and the own-event numbers of its records stand at the front of `owns`.
-pub record Replayed (r : Run) (owns : List ℕ) : Type 0 where
+-- Question 1 passes the run, and the own-event ordinals of its records stand at the front of `ordinals`.
+pub record Replayed (r : Run) (ordinals : List ℕ) : Type 0 where
   pub whole : WholeRun r
   pub asked : isReplayed r ≡ true
-  pub numbers : take (r .head .records) owns ≡ ownNumbers (recordWords r) (openedRun (openedWith r))
+  pub numbers : take (r .head .records) ordinals ≡ ordinalsOf (recordWords r) (openedRun (openedWith r))
 
--- Is the site without a channel at place k, or is that channel free of requests?
+-- Is the site without a channel at index k, or is that channel free of requests?
 abbrev pub quietAt : ℕ → Channels → ℕ → Bool
 quietAt count l k = not (isChannel count k) || not (waits (itemsOn l k))
 

@@ -23,7 +23,7 @@ use Rattle.rules.proofs.History.{openH, now-run}
 use Rattle.rules.proofs.Kept.{fresh-open, calls-keep}
 use Rattle.rules.proofs.Lists.{All}
 use Rattle.rules.proofs.Tests.{and-left, Same, same?}
-use Rattle.channel.specs.Channels.{place, isChannel}
+use Rattle.channel.specs.Channels.{channelIndex, isChannel}
 use Rattle.rules.specs.Below.{sumBelow, listBelow, sum}
 use Rattle.run.specs.Claims.{WholeRun}
 use Rattle.run.specs.Layout.{sendRecord}
@@ -37,9 +37,9 @@ use Rattle.run.proofs.Outcome.{passed, is-open}
 use Rattle.run.proofs.Parts.{zone-on, SoundRun, parts}
 use Rattle.run.proofs.Refine.{refine}
 use Rattle.run.proofs.Whole.{call-whole, opened-whole}
-use Rattle.journal.specs.InnerOwns.{ownNumbers}
+use Rattle.journal.specs.InnerOrdinals.{ordinalsOf}
 use Rattle.journal.specs.Writing.{isReplayed, replaysTo}
-use Rattle.recording.specs.Call.{callsIn, snapshotOf}
+use Rattle.recording.specs.Call.{ruleCallsIn, snapshotOf}
 use Rattle.recording.specs.Layout.{joinBelow, channelWords, itemWords}
 use Rattle.recording.specs.InnerRecords.{isIn, sendsOn, sentWords, takenCount, itemsAt}
 use Rattle.recording.proofs.Chain.{Chain, done, next, chain}
@@ -48,13 +48,13 @@ use Rattle.journal.specs.Format.{openedWith, openingStocks}
 use Rattle.run.specs.Opening.{openingOf}
 
 -- A word is sent on one channel at most, so all channels together have at most as many items as there are records.
-no-place : (n x : ℕ) (p : ℕ → Bool) → n ≤ x → sumBelow n (λ k. cond (eqb x k && p k) 1 0) ≡ 0
-no-place zero x p h = refl
-no-place (suc n) x p h = rw (no-place n x p (omega arith), ne-eqb x n (λ e. omega arith))
+no-index : (n x : ℕ) (p : ℕ → Bool) → n ≤ x → sumBelow n (λ k. cond (eqb x k && p k) 1 0) ≡ 0
+no-index zero x p h = refl
+no-index (suc n) x p h = rw (no-index n x p (omega arith), ne-eqb x n (λ e. omega arith))
 
-one-place : (n x : ℕ) (p : ℕ → Bool) → sumBelow n (λ k. cond (eqb x k && p k) 1 0) ≤ 1
-one-place zero x p = omega arith
-one-place (suc n) x p = go (one-place n x p) (same? x n)
+one-index : (n x : ℕ) (p : ℕ → Bool) → sumBelow n (λ k. cond (eqb x k && p k) 1 0) ≤ 1
+one-index zero x p = omega arith
+one-index (suc n) x p = go (one-index n x p) (same? x n)
   where
     at-most : (b : Bool) → cond b 1 0 ≤ 1
     at-most true = omega arith
@@ -62,7 +62,7 @@ one-place (suc n) x p = go (one-place n x p) (same? x n)
 
     go : sumBelow n (λ k. cond (eqb x k && p k) 1 0) ≤ 1 → Same x n
         → sumBelow n (λ k. cond (eqb x k && p k) 1 0) + cond (eqb x n && p n) 1 0 ≤ 1
-    go h (inl e) = rw (no-place n x p (omega (arith, e .0)), e .1) (omega (arith, at-most (p n)))
+    go h (inl e) = rw (no-index n x p (omega (arith, e .0)), e .1) (omega (arith, at-most (p n)))
     go h (inr e) = rw (e .1) (omega arith)
 
 sum-plus : (n : ℕ) (f g : ℕ → ℕ) → sumBelow n (λ k. f k + g k) ≡ sumBelow n f + sumBelow n g
@@ -89,9 +89,9 @@ sent-few n sh (w ∷ ws) (x ∷ ns) =
     let more : ℕ → ℕ = λ k. length (sentWords k sh ws ns) in
     let e : sumBelow n (λ k. length (cons-if (sendsOn k sh w x) w (sentWords k sh ws ns))) ≡ sumBelow n (λ k. one k + more k) =
     sum-same n _ _ (λ k h. length-cons-if (sendsOn k sh w x) w (sentWords k sh ws ns)) in
-    omega (arith, sum-plus n one more, one-place n (w / 256) (λ k. isIn x (getD sh (k / 8) 0)), sent-few n sh ws ns)
+    omega (arith, sum-plus n one more, one-index n (w / 256) (λ k. isIn x (getD sh (k / 8) 0)), sent-few n sh ws ns)
 
--- Of each word on a channel the high byte is the channel's place.
+-- Of each word on a channel the high byte is the channel's index.
 sent-on : (k : ℕ) (sh ws ns : List ℕ) → All (λ w. w / 256 ≡ k) (sentWords k sh ws ns)
 sent-on k sh [] ns = tt
 sent-on k sh (w ∷ ws) [] = tt
@@ -107,7 +107,7 @@ all-drop P zero xs h = h
 all-drop P (suc n) [] h = tt
 all-drop P (suc n) (x ∷ xs) h = all-drop P n xs (h .1)
 
-cars-under : (i j : ℕ) (cs : List ℕ) → j < 8 → All (λ w. w / 256 ≡ place i j) (map (sendRecord i j) cs) → All (λ c. c < 256) cs
+cars-under : (i j : ℕ) (cs : List ℕ) → j < 8 → All (λ w. w / 256 ≡ channelIndex i j) (map (sendRecord i j) cs) → All (λ c. c < 256) cs
 cars-under i j [] hj h = tt
 cars-under i j (c ∷ cs) hj h = (omega (arith, h .0), cars-under i j cs hj (h .1))
 
@@ -193,7 +193,7 @@ module _ (r : Run) (w : WholeRun r) (e : isReplayed r ≡ true) where
   shownList : List ℕ
   shownList = listBelow 8 (snapshotOf r .events)
 
-  items-at : (k : ℕ) → k < 64 → channelWords (snapshotOf r) k ≡ itemsAt k shownList (wordsAt r) (ownNumbers (wordsAt r) (firstRun r))
+  items-at : (k : ℕ) → k < 64 → channelWords (snapshotOf r) k ≡ itemsAt k shownList (wordsAt r) (ordinalsOf (wordsAt r) (firstRun r))
   unfolding shownList
   items-at k h =
       items-of r w e shownList k h (list-at 8 (snapshotOf r .events) 0 (k / 8) (omega arith)) (list-at 8 (snapshotOf r .events) 0 (k % 8) (omega arith))
@@ -203,7 +203,7 @@ module _ (r : Run) (w : WholeRun r) (e : isReplayed r ≡ true) where
       → length (joinBelow n (λ k. cond (isChannel (countOf (r .head)) k) (channelWords (snapshotOf r) k) [])) ≤ length (wordsAt r)
   items-below n m =
       let ws = wordsAt r in
-      let ns = ownNumbers ws (firstRun r) in
+      let ns = ordinalsOf ws (firstRun r) in
       let shown : ℕ → List ℕ = λ k. cond (isChannel (countOf (r .head)) k) (channelWords (snapshotOf r) k) [] in
       omega (
         arith,
@@ -213,7 +213,7 @@ module _ (r : Run) (w : WholeRun r) (e : isReplayed r ≡ true) where
       )
     where
       fewer : (k : ℕ) → k < 64 → (p : Bool)
-          → length (cond p (channelWords (snapshotOf r) k) []) ≤ length (sentWords k shownList (wordsAt r) (ownNumbers (wordsAt r) (firstRun r)))
+          → length (cond p (channelWords (snapshotOf r) k) []) ≤ length (sentWords k shownList (wordsAt r) (ordinalsOf (wordsAt r) (firstRun r)))
       fewer k h true = rw (items-at k h, length-drop) (omega arith)
       fewer k h false = omega arith
 
@@ -230,7 +230,7 @@ module _ (r : Run) (w : WholeRun r) (e : isReplayed r ≡ true) where
   pub events-few : (i : ℕ) → snapshotOf r .events i ≤ 1000
   events-few i =
       let v = openingOf (openedWith r) in
-      let cs = callsIn (wordsAt r) in
+      let cs = ruleCallsIn (wordsAt r) in
       let q : run cs (openS v) ≡ siteOf r = sym (site-is r w e) in
       let h = calls-keep Counts counts-kept cs (openH v) (fresh-open v) (calls-allowed r w e) (counts-open v) .past i in
       let past : eventsAt (siteOf r .zone i .checkpoint) ≤ siteOf r .zone i .events =
@@ -250,18 +250,18 @@ module _ (r : Run) (w : WholeRun r) (e : isReplayed r ≡ true) where
       let c = chain (wordsAt r) 0 (firstRun r) (h .accepted) in
       let v : getD (openingStocks r) i 0 ≤ 65535 = omega (arith, item-few (openingStocks r) i, o .fits .cars) in
       let s = saved-few c (opened-whole (openedWith r)) (λ k. subst (λ (x : Site). savedStock (x .zone k .checkpoint) ≤ 65535) (sym (first-site r w e)) (omega arith)) i in
-      shown-stock (run (callsIn (wordsAt r)) (firstSite r) .zone i .checkpoint) (getD (openingStocks r) i 0) 65535
+      shown-stock (run (ruleCallsIn (wordsAt r)) (firstSite r) .zone i .checkpoint) (getD (openingStocks r) i 0) 65535
       (subst (λ (x : Site). savedStock (x .zone i .checkpoint) ≤ 65535) (h .site ∙ site-is r w e) s) v
 
-  -- The items on the channel at a place: the high byte is the place, and the cars are below 256.
+  -- The items on the channel at an index: the high byte is the index, and the cars are below 256.
   pub words-on : (k : ℕ) → k < 64 → All (λ w. w / 256 ≡ k) (channelWords (snapshotOf r) k)
   words-on k h =
-      let ns = ownNumbers (wordsAt r) (firstRun r) in
+      let ns = ordinalsOf (wordsAt r) (firstRun r) in
       subst (All (λ w. w / 256 ≡ k)) (sym (items-at k h))
       (all-drop (λ w. w / 256 ≡ k) (takenCount k shownList (wordsAt r) ns) (sentWords k shownList (wordsAt r) ns) (sent-on k shownList (wordsAt r) ns))
 
   pub cars-few : (i j : ℕ) → i < 8 → j < 8 → All (λ c. c < 256) (snapshotOf r .park .channel i j)
   cars-few i j hi hj =
-      let x : place i j / 8 ≡ i = omega arith in
-      let y : place i j % 8 ≡ j = omega arith in
-      cars-under i j (snapshotOf r .park .channel i j) hj (rw (x, y) at (words-on (place i j) (omega arith)))
+      let x : channelIndex i j / 8 ≡ i = omega arith in
+      let y : channelIndex i j % 8 ≡ j = omega arith in
+      cars-under i j (snapshotOf r .park .channel i j) hj (rw (x, y) at (words-on (channelIndex i j) (omega arith)))

@@ -15,7 +15,7 @@ use Rattle.journal.specs.Format.{decode}
 use Rattle.journal.specs.Reading.{replayed}
 use Rattle.journal.specs.declared.Reading.{Reading}
 use Rattle.journal.proofs.Words.{record-decoded}
-use Rattle.recording.specs.Call.{callsIn}
+use Rattle.recording.specs.Call.{ruleCallsIn}
 use Rattle.run.specs.Calls.{recordOf, answer}
 use Rattle.run.specs.declared.SiteCall.{SiteCall}
 use Rattle.journal.specs.declared.Record.{Record}
@@ -48,9 +48,9 @@ chain (w ∷ ws) position r e = by-record (decode w) refl (chain ws (position + 
     by-record (WellFormed c) d more = by-call c (isAccepted c r) d refl more
 
 -- The calls, as the rules have them, lead from site to site, each as the rules ask.
-pub leads : {ws : List ℕ} {r t : Run} → Chain ws r t → WholeRun r → (run (callsIn ws) (siteOf r) ≡ siteOf t) × Allowed (callsIn ws) (siteOf r)
+pub leads : {ws : List ℕ} {r t : Run} → Chain ws r t → WholeRun r → (run (ruleCallsIn ws) (siteOf r) ≡ siteOf t) × Allowed (ruleCallsIn ws) (siteOf r)
 leads done w = (refl, tt)
 leads (next {ws = ws} {r} {t} c d f typed a more) w =
     let (q, m) = refine c r w typed a in
     let h = leads more (call-whole c r w) in
-    rw d (ap (run (callsIn ws)) (sym q) ∙ h .0, (m, subst (Allowed (callsIn ws)) q (h .1)))
+    rw d (ap (run (ruleCallsIn ws)) (sym q) ∙ h .0, (m, subst (Allowed (ruleCallsIn ws)) q (h .1)))

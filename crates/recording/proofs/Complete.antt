@@ -12,7 +12,7 @@ use Rattle.rules.specs.Site.{waits}
 use Rattle.rules.specs.Cut.{run, Complete}
 use Rattle.rules.specs.declared.Local.{Local}
 use Rattle.rules.proofs.Tests.{and-right, or-cases}
-use Rattle.channel.specs.Channels.{place, itemsOn, isChannel}
+use Rattle.channel.specs.Channels.{channelIndex, itemsOn, isChannel}
 use Rattle.rules.specs.Below.{anyBelow}
 use Rattle.run.specs.Claims.{WholeRun}
 use Rattle.run.specs.Model.{siteOf}
@@ -22,7 +22,7 @@ use Rattle.run.proofs.BelowLaws.{all-at, all-of, any-none}
 use Rattle.run.proofs.Outcome.{is-open}
 use Rattle.run.proofs.Parts.{onSite, between, zone-on, channel-on}
 use Rattle.journal.specs.Writing.{isReplayed}
-use Rattle.recording.specs.Call.{callsIn, noRequests}
+use Rattle.recording.specs.Call.{ruleCallsIn, noRequests}
 use Rattle.recording.proofs.Zones.{wordsAt, firstSite, reached, site-is}
 use Rattle.journal.specs.Format.{openedWith}
 
@@ -63,12 +63,12 @@ quiet-is : (r : Run) → countOf (r .head) ≤ 8 → noRequests (countOf (r .hea
 unfolding noRequests
 quiet-is r most e i j = go (onSite (countOf (r .head)) i j) refl
   where
-    go : (p : Bool) → onSite (countOf (r .head)) i j ≡ p → waits (cond p (itemsOn (r .channels) (place i j)) []) ≡ false
+    go : (p : Bool) → onSite (countOf (r .head)) i j ≡ p → waits (cond p (itemsOn (r .channels) (channelIndex i j)) []) ≡ false
     go true o =
         let b = between (countOf (r .head)) i j o in
-        let h : not (isChannel (countOf (r .head)) (place i j)) || not (waits (itemsOn (r .channels) (place i j))) ≡ true =
-        all-at 64 (λ k. not (isChannel (countOf (r .head)) k) || not (waits (itemsOn (r .channels) k))) e (place i j) (omega arith) in
-        not-true (waits (itemsOn (r .channels) (place i j))) (rw (and-right (ltb j 8) (isChannel (countOf (r .head)) (place i j)) o) at h)
+        let h : not (isChannel (countOf (r .head)) (channelIndex i j)) || not (waits (itemsOn (r .channels) (channelIndex i j))) ≡ true =
+        all-at 64 (λ k. not (isChannel (countOf (r .head)) k) || not (waits (itemsOn (r .channels) k))) e (channelIndex i j) (omega arith) in
+        not-true (waits (itemsOn (r .channels) (channelIndex i j))) (rw (and-right (ltb j 8) (isChannel (countOf (r .head)) (channelIndex i j)) o) at h)
     go false o = refl
 
 is-quiet : (r : Run) → ((i j : ℕ) → waits (siteOf r .channel i j) ≡ false) → noRequests (countOf (r .head)) (r .channels) ≡ true
@@ -79,21 +79,21 @@ is-quiet r h = all-of 64 _ (λ k b. go k (isChannel (countOf (r .head)) k) refl)
     go k true c =
         let i = k / 8 in
         let j = k % 8 in
-        let f : place i j ≡ k = omega arith in
+        let f : channelIndex i j ≡ k = omega arith in
         let g : j < 8 = omega arith in
         let o : onSite (countOf (r .head)) i j ≡ true = rw (lt-ltb j 8 g, f) c in
-        let q : waits (itemsOn (r .channels) (place i j)) ≡ false = rw (channel-on r i j o) at (h i j) in
+        let q : waits (itemsOn (r .channels) (channelIndex i j)) ≡ false = rw (channel-on r i j o) at (h i j) in
         rw (← f, q)
     go k false c = refl
 
 module _ (r : Run) (w : WholeRun r) (e : isReplayed r ≡ true) where
   pub complete-if : hasStarted (r .head) ≡ true → noRequests (countOf (r .head)) (r .channels) ≡ true
-      → Complete (run (callsIn (wordsAt r)) (firstSite r))
+      → Complete (run (ruleCallsIn (wordsAt r)) (firstSite r))
   complete-if s q =
       subst Complete (site-is r w e)
       (started-is r s, quiet-is r (is-open (openedWith r) (reached r w e .opened) .fits .most) q)
 
-  pub if-complete : Complete (run (callsIn (wordsAt r)) (firstSite r))
+  pub if-complete : Complete (run (ruleCallsIn (wordsAt r)) (firstSite r))
       → (hasStarted (r .head) ≡ true) × (noRequests (countOf (r .head)) (r .channels) ≡ true)
   if-complete c =
       let ((z, p), q) = subst Complete (sym (site-is r w e)) c in

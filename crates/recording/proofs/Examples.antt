@@ -3,12 +3,12 @@ use mathlib.Core.Path.{_≡_, refl}
 use mathlib.Core.List.{[], _∷_}
 use Rattle.rules.specs.Questions.{isCount, isOn}
 use Rattle.rules.specs.Sets.{has, members}
-use Rattle.local.specs.Asked.{requestedBy, startedBy}
+use Rattle.local.specs.Requesting.{requestedBy, startedBy}
 use Rattle.channel.specs.Words.{itemOf, messageWord}
 use Rattle.channel.specs.Channels.{pushed, movedDown, popped, allFree, requestedAll, isChannel}
 use Rattle.run.specs.Calls.{isPair, answer}
 use Rattle.run.specs.Lists.{after}
-use Rattle.run.specs.State.{zoneSound, zonesSound, channelSound, channelsSound, stocks, carsOnChannels, partsSound, hasStarted}
+use Rattle.run.specs.State.{localSound, localsSound, channelSound, channelsSound, stocks, carsOnChannels, partsSound, hasStarted}
 use Rattle.run.specs.declared.Run.{Run}
 use Rattle.journal.specs.Format.{journalBytes, decode}
 use Rattle.journal.specs.Reading.{readCall}
@@ -26,5 +26,5 @@ two = openCall (openingAs (termsAs 2) (1 ∷ 1 ∷ [])) .run
 pub numbers : (recordCall two [] .answer .refusal ≡ 12)
     × (recordCall (after (Send 2 1 0 ∷ Receive 2 1 ∷ Start 1 ∷ []) two) [] .answer .refusal ≡ 13)
     × (recordCall (after (Start 1 ∷ []) two) [] .answer .refusal ≡ 14)
-unfolding isCount isOn has members requestedBy startedBy itemOf messageWord pushed movedDown popped allFree requestedAll isPair openCall answer isChannel zoneSound zonesSound channelSound channelsSound stocks carsOnChannels partsSound hasStarted openedRun journalBytes decode readCall sameLocal sameChannel sameZones sameChannels sameState replaysTo isReplayed itemWords recordingBytes noRequests recordCall
+unfolding isCount isOn has members requestedBy startedBy itemOf messageWord pushed movedDown popped allFree requestedAll isPair openCall answer isChannel localSound localsSound channelSound channelsSound stocks carsOnChannels partsSound hasStarted openedRun journalBytes decode readCall sameLocal sameChannel sameZones sameChannels sameState replaysTo isReplayed itemWords recordingBytes noRequests recordCall
 numbers = (refl, refl, refl)

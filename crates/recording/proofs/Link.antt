@@ -1,4 +1,4 @@
--- The items of a recording by the rules are those that the journal's records and their own-event numbers show.
+-- The items of a recording by the rules are those that the journal's records and their own-event ordinals show.
 use mathlib.Core.Path.{_≡_, refl, sym, _∙_, ap, ap₂}
 use mathlib.Core.Bool.{Bool, true, false, _&&_, and-false, true≢false}
 use mathlib.Core.Logic.{_⊎_, inl, inr}
@@ -15,7 +15,7 @@ use Rattle.rules.specs.Park.{Move, hand, take, isInside, insideFrom, hands, tak
 use Rattle.rules.specs.Cut.{moves, snapshot}
 use Rattle.rules.specs.declared.Local.{Local}
 use Rattle.rules.proofs.Tests.{both-true, eqb-refl}
-use Rattle.channel.specs.Channels.{place}
+use Rattle.channel.specs.Channels.{channelIndex}
 use Rattle.run.specs.Calls.{recordOf, answer, actor}
 use Rattle.run.specs.Claims.{WholeRun, Typed}
 use Rattle.run.specs.Layout.{sendRecord, receiveRecord}
@@ -28,9 +28,9 @@ use Rattle.run.proofs.Outcome.{acts, Passed, passed, is-open}
 use Rattle.run.proofs.Parts.{zone-on, parts}
 use Rattle.run.proofs.Refine.{refine, opened-site}
 use Rattle.run.proofs.Whole.{call-whole, opened-whole}
-use Rattle.journal.specs.InnerOwns.{numberOf, ownNumber, ownNumbers}
+use Rattle.journal.specs.InnerOrdinals.{ordinalBy, ordinalOf, ordinalsOf}
 use Rattle.journal.specs.Reading.{replayed}
-use Rattle.recording.specs.Call.{callsIn}
+use Rattle.recording.specs.Call.{ruleCallsIn}
 use Rattle.recording.specs.Layout.{channelWords}
 use Rattle.recording.specs.InnerRecords.{isIn, sendsOn, takesOn, sentWords, takenCount, itemsAt}
 use Rattle.recording.proofs.Chain.{Chain, done, next, chain}
@@ -46,10 +46,10 @@ same-actor (Send from to cars) = refl
 same-actor (Receive from to) = refl
 same-actor (Start zone) = refl
 
--- The own-event number of an accepted call, by the rules.
+-- The own-event ordinal of an accepted call, by the rules.
 number-is : (c : SiteCall) (r : Run) → WholeRun r → Typed c → isAccepted c r ≡ true
-    → ownNumber (WellFormed c) r
-    ≡ numberOf (eventsIn (siteOf r) (actorOf (callOf c))) (eventsIn (stepS (callOf c) (siteOf r)) (actorOf (callOf c)))
+    → ordinalOf (WellFormed c) r
+    ≡ ordinalBy (eventsIn (siteOf r) (actorOf (callOf c))) (eventsIn (stepS (callOf c) (siteOf r)) (actorOf (callOf c)))
 number-is c r w t e =
     let p = passed c r e in
     let k = actor c in
@@ -58,13 +58,13 @@ number-is c r w t e =
     let before : zoneAt (r .head) k .events ≡ eventsIn (siteOf r) k = ap (λ (z : Local). z .events) (sym (zone-on r k h)) in
     let after : zoneAt (answer c r .run .head) k .events ≡ eventsIn (stepS (callOf c) (siteOf r)) k =
     ap (λ (z : Local). z .events) (sym (zone-on (answer c r .run) k (omega arith))) ∙ ap (λ (s : Site). eventsIn s k) (refine c r w t e .0) in
-    ap₂ numberOf before after
-    ∙ ap (λ (k : ℕ). numberOf (eventsIn (siteOf r) k) (eventsIn (stepS (callOf c) (siteOf r)) k)) (same-actor c)
+    ap₂ ordinalBy before after
+    ∙ ap (λ (k : ℕ). ordinalBy (eventsIn (siteOf r) k) (eventsIn (stepS (callOf c) (siteOf r)) k)) (same-actor c)
 
--- A place is that of one pair of zones.
-same-place : (x y base a b i j : ℕ) → x ≡ base + place a b → y ≡ base + place i j → a < 8 → b < 8 → i < 8 → j < 8
+-- An index is that of one pair of zones.
+same-index : (x y base a b i j : ℕ) → x ≡ base + channelIndex a b → y ≡ base + channelIndex i j → a < 8 → b < 8 → i < 8 → j < 8
     → eqb x y ≡ eqb i a && eqb j b
-same-place x y base a b i j p q ha hb hi hj = go (eqb i a && eqb j b) refl
+same-index x y base a b i j p q ha hb hi hj = go (eqb i a && eqb j b) refl
   where
     agree : i ≡ a → j ≡ b → eqb i a && eqb j b ≡ true
     agree e f = rw (e, f, eqb-refl a, eqb-refl b)
@@ -79,7 +79,7 @@ inside-is n shown = rw (le-leb 1 (suc n) (omega arith))
 
 -- The inside moves of the records' calls from a site on.
 abbrev pub insideOf : (ℕ → ℕ) → List ℕ → Site → List Move
-insideOf shown ws s = insideFrom shown (eventsIn s) (moves (callsIn ws) s)
+insideOf shown ws s = insideFrom shown (eventsIn s) (moves (ruleCallsIn ws) s)
 
 module _ (i j : ℕ) where
   -- The channel from i to j is that from a to b.
@@ -118,48 +118,48 @@ module _ (i j : ℕ) where
       go false false e = refl
 
   module _ (shown : ℕ → ℕ) (sh : List ℕ) (hi : i < 8) (hj : j < 8) (fi : getD sh i 0 ≡ shown i) (fj : getD sh j 0 ≡ shown j) where
-    -- The tests on words, for the records of moves with their own-event numbers.
+    -- The tests on words, for the records of moves with their own-event ordinals.
     sends-hand : (a b cars n : ℕ) → a < 8 → b < 8 → cars < 256
-        → sendsOn (place i j) sh (sendRecord a b cars) (suc n) ≡ here a b && ltb n (shown a)
+        → sendsOn (channelIndex i j) sh (sendRecord a b cars) (suc n) ≡ here a b && ltb n (shown a)
     sends-hand a b cars n ha hb hc =
-        rw (same-place (sendRecord a b cars / 256) (place i j) 0 a b i j (omega arith) (omega arith) ha hb hi hj) (go (here a b) refl)
+        rw (same-index (sendRecord a b cars / 256) (channelIndex i j) 0 a b i j (omega arith) (omega arith) ha hb hi hj) (go (here a b) refl)
       where
-        go : (q : Bool) → here a b ≡ q → q && isIn (suc n) (getD sh (place i j / 8) 0) ≡ q && ltb n (shown a)
+        go : (q : Bool) → here a b ≡ q → q && isIn (suc n) (getD sh (channelIndex i j / 8) 0) ≡ q && ltb n (shown a)
         go true e =
             let (x, y) = both-true i a j b e in
-            let z : place i j / 8 ≡ i = omega arith in
+            let z : channelIndex i j / 8 ≡ i = omega arith in
             rw (z, fi, x) (inside-is n (shown a))
         go false e = refl
 
-    takes-take : (a b n : ℕ) → a < 8 → b < 8 → takesOn (place i j) sh (receiveRecord a b) (suc n) ≡ here a b && ltb n (shown b)
+    takes-take : (a b n : ℕ) → a < 8 → b < 8 → takesOn (channelIndex i j) sh (receiveRecord a b) (suc n) ≡ here a b && ltb n (shown b)
     takes-take a b n ha hb =
-        rw (same-place (receiveRecord a b / 256) (64 + place i j) 64 a b i j (omega arith) (omega arith) ha hb hi hj) (go (here a b) refl)
+        rw (same-index (receiveRecord a b / 256) (64 + channelIndex i j) 64 a b i j (omega arith) (omega arith) ha hb hi hj) (go (here a b) refl)
       where
-        go : (q : Bool) → here a b ≡ q → q && isIn (suc n) (getD sh (place i j % 8) 0) ≡ q && ltb n (shown b)
+        go : (q : Bool) → here a b ≡ q → q && isIn (suc n) (getD sh (channelIndex i j % 8) 0) ≡ q && ltb n (shown b)
         go true e =
             let (x, y) = both-true i a j b e in
-            let z : place i j % 8 ≡ j = omega arith in
+            let z : channelIndex i j % 8 ≡ j = omega arith in
             rw (z, fj, y) (inside-is n (shown b))
         go false e = refl
 
     -- Words of another kind.
-    no-send : (word n : ℕ) → 16384 ≤ word → sendsOn (place i j) sh word n ≡ false
-    no-send word n h = rw (ne-eqb (word / 256) (place i j) (λ e. omega arith))
+    no-send : (word n : ℕ) → 16384 ≤ word → sendsOn (channelIndex i j) sh word n ≡ false
+    no-send word n h = rw (ne-eqb (word / 256) (channelIndex i j) (λ e. omega arith))
 
-    no-take : (word n : ℕ) → (word < 16384) ⊎ (32768 ≤ word) → takesOn (place i j) sh word n ≡ false
-    no-take word n (inl h) = rw (ne-eqb (word / 256) (64 + place i j) (λ e. omega arith))
-    no-take word n (inr h) = rw (ne-eqb (word / 256) (64 + place i j) (λ e. omega arith))
+    no-take : (word n : ℕ) → (word < 16384) ⊎ (32768 ≤ word) → takesOn (channelIndex i j) sh word n ≡ false
+    no-take word n (inl h) = rw (ne-eqb (word / 256) (64 + channelIndex i j) (λ e. omega arith))
+    no-take word n (inr h) = rw (ne-eqb (word / 256) (64 + channelIndex i j) (λ e. omega arith))
 
     -- A receipt of a request has the number 0, which is never inside.
-    quiet-take : (word : ℕ) → takesOn (place i j) sh word 0 ≡ false
-    quiet-take word = and-false (eqb (word / 256) (64 + place i j))
+    quiet-take : (word : ℕ) → takesOn (channelIndex i j) sh word 0 ≡ false
+    quiet-take word = and-false (eqb (word / 256) (64 + channelIndex i j))
 
     -- An accepted call before others.
     module _ (r : Run) (w : WholeRun r) (cs : List Call) where
       abbrev Sends : SiteCall → Type 0
       Sends c =
           sentBy (insideAll shown (callOf c) cs (siteOf r))
-          ≡ cons-if (sendsOn (place i j) sh (recordOf c) (ownNumber (WellFormed c) r)) (recordOf c) (sentBy (insideRest shown (callOf c) cs (siteOf r)))
+          ≡ cons-if (sendsOn (channelIndex i j) sh (recordOf c) (ordinalOf (WellFormed c) r)) (recordOf c) (sentBy (insideRest shown (callOf c) cs (siteOf r)))
 
       sends-first : (c : SiteCall) → Typed c → isAccepted c r ≡ true → Sends c
       sends-first (Send from to cars) t e =
@@ -175,7 +175,7 @@ module _ (i j : ℕ) where
           )
           (ap sentBy (moved-inside shown (send a b cars) cs (siteOf r) (hand a b cars) m) ∙ hand-sent a b cars _ _)
       sends-first (Receive from to) t e =
-          rw (no-send (recordOf (Receive from to)) (ownNumber (WellFormed (Receive from to)) r) (omega arith))
+          rw (no-send (recordOf (Receive from to)) (ordinalOf (WellFormed (Receive from to)) r) (omega arith))
           (go (received-moves (index from) (index to) (siteOf r)))
         where
           a : ℕ
@@ -190,13 +190,13 @@ module _ (i j : ℕ) where
           go (inr q) = ap sentBy (moved-inside shown (receive a b) cs (siteOf r) (take a b) q)
               ∙ take-sent a b (isInside shown (eventsIn (siteOf r)) (take a b)) (insideRest shown (receive a b) cs (siteOf r))
       sends-first (Start zone) t e =
-          rw (no-send (recordOf (Start zone)) (ownNumber (WellFormed (Start zone)) r) (omega arith))
+          rw (no-send (recordOf (Start zone)) (ordinalOf (WellFormed (Start zone)) r) (omega arith))
           (ap sentBy (quiet-inside shown (start (index zone)) cs (siteOf r) (start-quiet (index zone) (siteOf r))))
 
       abbrev Takes : SiteCall → Type 0
       Takes c =
           takes i j (insideAll shown (callOf c) cs (siteOf r))
-          ≡ on (takesOn (place i j) sh (recordOf c) (ownNumber (WellFormed c) r)) suc (takes i j (insideRest shown (callOf c) cs (siteOf r)))
+          ≡ on (takesOn (channelIndex i j) sh (recordOf c) (ordinalOf (WellFormed c) r)) suc (takes i j (insideRest shown (callOf c) cs (siteOf r)))
 
       takes-first : (c : SiteCall) → Typed c → isAccepted c r ≡ true → Takes c
       takes-first (Send from to cars) t e =
@@ -205,7 +205,7 @@ module _ (i j : ℕ) where
           let m = sent-moved a b cars (siteOf r) in
           let p = passed (Send from to cars) r e in
           let few = parts r (p .sound) .most in
-          rw (no-take (sendRecord a b cars) (ownNumber (WellFormed (Send from to cars)) r) (inl (omega (arith, p .asks .0 .from, p .asks .0 .to))))
+          rw (no-take (sendRecord a b cars) (ordinalOf (WellFormed (Send from to cars)) r) (inl (omega (arith, p .asks .0 .from, p .asks .0 .to))))
           (ap (takes i j) (moved-inside shown (send a b cars) cs (siteOf r) (hand a b cars) m)
           ∙ hand-taken a b cars (isInside shown (eventsIn (siteOf r)) (hand a b cars)) (insideRest shown (send a b cars) cs (siteOf r)))
       takes-first (Receive from to) t e = go (received-moves (index from) (index to) (siteOf r))
@@ -232,30 +232,30 @@ module _ (i j : ℕ) where
               (ap (takes i j) (moved-inside shown (receive a b) cs (siteOf r) (take a b) q)
               ∙ take-taken a b (isInside shown (eventsIn (siteOf r)) (take a b)) (insideRest shown (receive a b) cs (siteOf r)))
       takes-first (Start zone) t e =
-          rw (no-take (recordOf (Start zone)) (ownNumber (WellFormed (Start zone)) r) (inr (omega arith)))
+          rw (no-take (recordOf (Start zone)) (ordinalOf (WellFormed (Start zone)) r) (inr (omega arith)))
           (ap (takes i j) (quiet-inside shown (start (index zone)) cs (siteOf r) (start-quiet (index zone) (siteOf r))))
 
     -- Records that are accepted in turn.
     pub sent-are : {ws : List ℕ} {r t : Run} → Chain ws r t → WholeRun r
-        → sentBy (insideOf shown ws (siteOf r)) ≡ sentWords (place i j) sh ws (ownNumbers ws r)
+        → sentBy (insideOf shown ws (siteOf r)) ≡ sentWords (channelIndex i j) sh ws (ordinalsOf ws r)
     sent-are done w = refl
     sent-are (next {w = word} {ws} {r} c d f typed a more) w =
         let q = refine c r w typed a .0 in
         let h = sent-are more (call-whole c r w) in
         rw (d, a, ← f)
-        (sends-first r w (callsIn ws) c typed a
-        ∙ ap (cons-if (sendsOn (place i j) sh (recordOf c) (ownNumber (WellFormed c) r)) (recordOf c))
+        (sends-first r w (ruleCallsIn ws) c typed a
+        ∙ ap (cons-if (sendsOn (channelIndex i j) sh (recordOf c) (ordinalOf (WellFormed c) r)) (recordOf c))
         (ap (λ (s : Site). sentBy (insideOf shown ws s)) (sym q) ∙ h))
 
     pub taken-are : {ws : List ℕ} {r t : Run} → Chain ws r t → WholeRun r
-        → takes i j (insideOf shown ws (siteOf r)) ≡ takenCount (place i j) sh ws (ownNumbers ws r)
+        → takes i j (insideOf shown ws (siteOf r)) ≡ takenCount (channelIndex i j) sh ws (ordinalsOf ws r)
     taken-are done w = refl
     taken-are (next {w = word} {ws} {r} c d f typed a more) w =
         let q = refine c r w typed a .0 in
         let h = taken-are more (call-whole c r w) in
         rw (d, a, ← f)
-        (takes-first r w (callsIn ws) c typed a
-        ∙ ap (on (takesOn (place i j) sh (recordOf c) (ownNumber (WellFormed c) r)) suc)
+        (takes-first r w (ruleCallsIn ws) c typed a
+        ∙ ap (on (takesOn (channelIndex i j) sh (recordOf c) (ordinalOf (WellFormed c) r)) suc)
         (ap (λ (s : Site). takes i j (insideOf shown ws s)) (sym q) ∙ h))
 
 map-drop : {A B : Type 0} (f : A → B) (n : ℕ) (xs : List A) → map f (drop n xs) ≡ drop n (map f xs)
@@ -263,26 +263,26 @@ map-drop f zero xs = refl
 map-drop f (suc n) [] = refl
 map-drop f (suc n) (x ∷ xs) = map-drop f n xs
 
--- From an accepted opening: the items on the channel at a place.
+-- From an accepted opening: the items on the channel at an index.
 pub items-are : (o : Opening) (ws : List ℕ) (position : ℕ) → openCall o .refusal ≡ 0
     → replayed ws position (openedRun o) .refusal ≡ 0 → (sh : List ℕ)
     → (k : ℕ) → k < 64
-    → getD sh (k / 8) 0 ≡ snapshot (openingOf o) (callsIn ws) .events (k / 8)
-    → getD sh (k % 8) 0 ≡ snapshot (openingOf o) (callsIn ws) .events (k % 8)
-    → itemsAt k sh ws (ownNumbers ws (openedRun o)) ≡ channelWords (snapshot (openingOf o) (callsIn ws)) k
+    → getD sh (k / 8) 0 ≡ snapshot (openingOf o) (ruleCallsIn ws) .events (k / 8)
+    → getD sh (k % 8) 0 ≡ snapshot (openingOf o) (ruleCallsIn ws) .events (k % 8)
+    → itemsAt k sh ws (ordinalsOf ws (openedRun o)) ≡ channelWords (snapshot (openingOf o) (ruleCallsIn ws)) k
 items-are o ws position a e sh k h fi fj =
     let i = k / 8 in
     let j = k % 8 in
     let hi : i < 8 = omega arith in
     let hj : j < 8 = omega arith in
-    let shown = snapshot (openingOf o) (callsIn ws) .events in
+    let shown = snapshot (openingOf o) (ruleCallsIn ws) .events in
     let first = openS (openingOf o) in
     let c = chain ws position (openedRun o) e in
     let w = opened-whole o in
     let site = opened-site o (is-open o a .fits) in
-    let f : place i j ≡ k = omega arith in
+    let f : channelIndex i j ≡ k = omega arith in
     sym (map-drop (sendRecord i j) (takes i j (insideOf shown ws first)) (hands i j (insideOf shown ws first))
     ∙ ap₂ (λ (n : ℕ) (xs : List ℕ). drop n xs)
     (ap (λ (s : Site). takes i j (insideOf shown ws s)) (sym site) ∙ taken-are i j shown sh hi hj fi fj c w)
     (ap (λ (s : Site). sentBy i j (insideOf shown ws s)) (sym site) ∙ sent-are i j shown sh hi hj fi fj c w)
-    ∙ ap (λ (k : ℕ). itemsAt k sh ws (ownNumbers ws (openedRun o))) f)
+    ∙ ap (λ (k : ℕ). itemsAt k sh ws (ordinalsOf ws (openedRun o))) f)

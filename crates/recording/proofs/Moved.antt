@@ -16,7 +16,7 @@ use Rattle.rules.specs.Cut.{moveOf, moves}
 use Rattle.rules.specs.declared.Local.{Local}
 use Rattle.rules.proofs.Guarded.{on-same, on-map}
 use Rattle.rules.proofs.Tests.{eqb-refl}
-use Rattle.journal.specs.InnerOwns.{numberOf}
+use Rattle.journal.specs.InnerOrdinals.{ordinalBy}
 
 -- The own events of each zone.
 abbrev pub eventsIn : Site → ℕ → ℕ
@@ -70,12 +70,12 @@ received-moves a b s = go (s .channel a b) refl
               (on-same (λ (t : Site). eventsIn t k) (not (isPermanent (s .zone b .checkpoint))) (turnS b set) (popS a b s) (turned set k (popS a b s)));
         })
 
--- The own-event number of the call, of the counts of the zone that acts.
-pub quiet-number : (c : Call) (s : Site) → Quiet c s → numberOf (eventsIn s (actorOf c)) (eventsIn (stepS c s) (actorOf c)) ≡ 0
+-- The own-event ordinal of the call, of the counts of the zone that acts.
+pub quiet-number : (c : Call) (s : Site) → Quiet c s → ordinalBy (eventsIn s (actorOf c)) (eventsIn (stepS c s) (actorOf c)) ≡ 0
 quiet-number c s q = rw (q .same (actorOf c), eqb-refl)
 
 pub moved-number : (c : Call) (s : Site) (m : Move) → Moved c s m
-    → numberOf (eventsIn s (actorOf c)) (eventsIn (stepS c s) (actorOf c)) ≡ suc (eventsIn s (owner m))
+    → ordinalBy (eventsIn s (actorOf c)) (eventsIn (stepS c s) (actorOf c)) ≡ suc (eventsIn s (owner m))
 moved-number c s m q =
     let n = eventsIn s (owner m) in
     let e : eventsIn (stepS c s) (owner m) ≡ suc n = rw (q .more (owner m), eqb-refl) in

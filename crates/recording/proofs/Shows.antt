@@ -18,7 +18,7 @@ use Rattle.rules.specs.Cut.{Snapshot, Cut, run, moves, taking, eventsOf, stockO
 use Rattle.rules.proofs.Consistency.{consistent}
 use Rattle.rules.proofs.Lists.{All}
 use Rattle.rules.proofs.Tests.{both-true, eqb-refl}
-use Rattle.channel.specs.Channels.{place, isChannel}
+use Rattle.channel.specs.Channels.{channelIndex, isChannel}
 use Rattle.run.specs.Claims.{WholeRun}
 use Rattle.run.specs.Layout.{sendRecord}
 use Rattle.run.specs.State.{hasStarted, countOf, termsOf}
@@ -32,9 +32,9 @@ use Rattle.journal.specs.Format.{openedWith, openingStocks, headerOf}
 use Rattle.journal.specs.Writing.{isReplayed}
 use Rattle.words.proofs.ByteLaws.{word-read, words-read-from}
 use Rattle.journal.proofs.Words.{header-fields}
-use Rattle.recording.specs.Call.{callsIn, snapshotOf, noRequests}
+use Rattle.recording.specs.Call.{ruleCallsIn, snapshotOf, noRequests}
 use Rattle.recording.specs.Layout.{joinBelow, zoneWords, channelWords, itemWords, recordingWords, recordingBytes}
-use Rattle.recording.specs.Shown.{zoneWord, stockWord, itemsIn, carsAt, shownIn}
+use Rattle.recording.specs.Shown.{zoneWord, stockWord, itemsIn, carsShown, shownIn}
 use Rattle.recording.proofs.Bounds.{run-sound, items-number, events-few, cars-few, words-on}
 use Rattle.recording.proofs.Chain.{Chain, done, next, chain}
 use Rattle.recording.proofs.Complete.{complete-if}
@@ -82,47 +82,47 @@ zone-at (suc n) k s h = go (λ b. zone-at n k s b) (split k n h)
           ap (λ (x : ℕ). getD (front ++ zoneWords s n) x 0) q ∙ getD-append-add front (zoneWords s n) 1 0 ∙ ap (λ (x : ℕ). s .park .stock x) (sym b),
         )
 
--- The cars of the words whose high byte is a place.
-cars-append : (k : ℕ) (xs ys : List ℕ) → carsAt k (xs ++ ys) ≡ carsAt k xs ++ carsAt k ys
+-- The cars of the words whose high byte is an index.
+cars-append : (k : ℕ) (xs ys : List ℕ) → carsShown k (xs ++ ys) ≡ carsShown k xs ++ carsShown k ys
 cars-append k [] ys = refl
 cars-append k (x ∷ xs) ys = ap (cons-if (eqb (x / 256) k) (x % 256)) (cars-append k xs ys) ∙ go (eqb (x / 256) k)
   where
-    go : (b : Bool) → cons-if b (x % 256) (carsAt k xs ++ carsAt k ys) ≡ cons-if b (x % 256) (carsAt k xs) ++ carsAt k ys
+    go : (b : Bool) → cons-if b (x % 256) (carsShown k xs ++ carsShown k ys) ≡ cons-if b (x % 256) (carsShown k xs) ++ carsShown k ys
     go true = refl
     go false = refl
 
-cars-other : (k m : ℕ) (xs : List ℕ) → m ≢ k → All (λ w. w / 256 ≡ m) xs → carsAt k xs ≡ []
+cars-other : (k m : ℕ) (xs : List ℕ) → m ≢ k → All (λ w. w / 256 ≡ m) xs → carsShown k xs ≡ []
 cars-other k m [] d h = refl
 cars-other k m (x ∷ xs) d h = rw (h .0, ne-eqb m k d) (cars-other k m xs d (h .1))
 
-cars-here : (i j : ℕ) (cs : List ℕ) → j < 8 → All (λ c. c < 256) cs → carsAt (place i j) (map (sendRecord i j) cs) ≡ cs
+cars-here : (i j : ℕ) (cs : List ℕ) → j < 8 → All (λ c. c < 256) cs → carsShown (channelIndex i j) (map (sendRecord i j) cs) ≡ cs
 cars-here i j [] hj h = refl
 cars-here i j (c ∷ cs) hj h =
     let b = h .0 in
-    let e : sendRecord i j c / 256 ≡ place i j = omega arith in
+    let e : sendRecord i j c / 256 ≡ channelIndex i j = omega arith in
     let f : sendRecord i j c % 256 ≡ c = omega arith in
-    rw (e, eqb-refl (place i j), f) (ap (λ (l : List ℕ). c ∷ l) (cars-here i j cs hj (h .1)))
+    rw (e, eqb-refl (channelIndex i j), f) (ap (λ (l : List ℕ). c ∷ l) (cars-here i j cs hj (h .1)))
 
 module _ (f : ℕ → List ℕ) (on : (k : ℕ) → k < 64 → All (λ w. w / 256 ≡ k) (f k)) where
-  cars-none : (n k : ℕ) → n ≤ 64 → n ≤ k → carsAt k (joinBelow n f) ≡ []
+  cars-none : (n k : ℕ) → n ≤ 64 → n ≤ k → carsShown k (joinBelow n f) ≡ []
   cars-none zero k m h = refl
   cars-none (suc n) k m h =
       cars-append k (joinBelow n f) (f n)
       ∙ ap₂ _++_ (cars-none n k (omega arith) (omega arith)) (cars-other k n (f n) (λ e. omega arith) (on n (omega arith)))
 
-  cars-joined : (n k : ℕ) → n ≤ 64 → k < n → carsAt k (joinBelow n f) ≡ carsAt k (f k)
+  cars-joined : (n k : ℕ) → n ≤ 64 → k < n → carsShown k (joinBelow n f) ≡ carsShown k (f k)
   cars-joined zero k m h = absurd (not-suc-le-zero h)
   cars-joined (suc n) k m h = cars-append k (joinBelow n f) (f n) ∙ go (λ b. cars-joined n k (omega arith) b) (split k n h)
     where
-      go : (k < n → carsAt k (joinBelow n f) ≡ carsAt k (f k)) → (k < n) ⊎ (k ≡ n) → carsAt k (joinBelow n f) ++ carsAt k (f n) ≡ carsAt k (f k)
+      go : (k < n → carsShown k (joinBelow n f) ≡ carsShown k (f k)) → (k < n) ⊎ (k ≡ n) → carsShown k (joinBelow n f) ++ carsShown k (f n) ≡ carsShown k (f k)
       go more (inl b) =
-          ap₂ _++_ (more b) (cars-other k n (f n) (λ e. omega arith) (on n (omega arith))) ∙ append-nil (carsAt k (f k))
-      go more (inr b) = ap₂ _++_ (cars-none n k (omega arith) (omega arith)) (ap (λ (x : ℕ). carsAt k (f x)) (sym b))
+          ap₂ _++_ (more b) (cars-other k n (f n) (λ e. omega arith) (on n (omega arith))) ∙ append-nil (carsShown k (f k))
+      go more (inr b) = ap₂ _++_ (cars-none n k (omega arith) (omega arith)) (ap (λ (x : ℕ). carsShown k (f x)) (sym b))
 
 -- The two parts of a zone's word.
-firm-bit : (b : Bool) (n : ℕ) → n < 1024 → leb 32768 (cond b 32768 0 + n) ≡ b
-firm-bit true n h = le-leb 32768 (32768 + n) (omega arith)
-firm-bit false n h = lt-leb 32768 (0 + n) (omega arith)
+permanent-bit : (b : Bool) (n : ℕ) → n < 1024 → leb 32768 (cond b 32768 0 + n) ≡ b
+permanent-bit true n h = le-leb 32768 (32768 + n) (omega arith)
+permanent-bit false n h = lt-leb 32768 (0 + n) (omega arith)
 
 event-bits : (b : Bool) (n : ℕ) → n < 1024 → (cond b 32768 0 + n) % 1024 ≡ n
 event-bits true n h = omega arith
@@ -180,7 +180,7 @@ module _ (t : Terms) (s : Snapshot) (fits : Fits (t .count) s) (on : (k : ℕ) �
   recorded-read k = rw zones-are (go (ltb k count) refl)
     where
       go : (p : Bool) → ltb k count ≡ p → p && leb 32768 (zoneWord shownBytes k) ≡ s .recorded k
-      go true e = ap (leb 32768) (zone-read k (ltb-true k count e)) ∙ firm-bit (s .recorded k) (s .events k) (fits .events k)
+      go true e = ap (leb 32768) (zone-read k (ltb-true k count e)) ∙ permanent-bit (s .recorded k) (s .events k) (fits .events k)
       go false e = sym (fits .recorded-off k (ltb-false k count e))
 
   events-read : (k : ℕ) → shownIn shownBytes .events k ≡ s .events k
@@ -197,27 +197,27 @@ module _ (t : Terms) (s : Snapshot) (fits : Fits (t .count) s) (on : (k : ℕ) �
       go true e = stock-read k (ltb-true k count e)
       go false e = sym (fits .stock-off k (ltb-false k count e))
 
-  cars-read : (i j : ℕ) → i < 8 → j < 8 → carsAt (place i j) (itemWords count s) ≡ s .park .channel i j
+  cars-read : (i j : ℕ) → i < 8 → j < 8 → carsShown (channelIndex i j) (itemWords count s) ≡ s .park .channel i j
   unfolding itemWords
   cars-read i j hi hj =
-      cars-joined (λ k. cond (isChannel count k) (channelWords s k) []) (λ k h. words k h (isChannel count k)) 64 (place i j) (omega arith) (omega arith)
-      ∙ go (isChannel count (place i j)) refl
+      cars-joined (λ k. cond (isChannel count k) (channelWords s k) []) (λ k h. words k h (isChannel count k)) 64 (channelIndex i j) (omega arith) (omega arith)
+      ∙ go (isChannel count (channelIndex i j)) refl
     where
       words : (k : ℕ) → k < 64 → (p : Bool) → All (λ w. w / 256 ≡ k) (cond p (channelWords s k) [])
       words k h true = on k h
       words k h false = tt
 
-      go : (p : Bool) → isChannel count (place i j) ≡ p → carsAt (place i j) (cond p (channelWords s (place i j)) []) ≡ s .park .channel i j
+      go : (p : Bool) → isChannel count (channelIndex i j) ≡ p → carsShown (channelIndex i j) (cond p (channelWords s (channelIndex i j)) []) ≡ s .park .channel i j
       go true e =
-          let x : place i j / 8 ≡ i = omega arith in
-          let y : place i j % 8 ≡ j = omega arith in
+          let x : channelIndex i j / 8 ≡ i = omega arith in
+          let y : channelIndex i j % 8 ≡ j = omega arith in
           rw (x, y) (cars-here i j (s .park .channel i j) hj (fits .cars i j hi hj))
       go false e = sym (fits .channel-off i j (rw (e) (and-false (ltb j 8))))
 
   channel-read : (i j : ℕ) → shownIn shownBytes .park .channel i j ≡ s .park .channel i j
   channel-read i j = rw items-read (go (ltb i 8) (ltb j 8) refl refl)
     where
-      go : (p q : Bool) → ltb i 8 ≡ p → ltb j 8 ≡ q → cond (p && q) (carsAt (place i j) (itemWords count s)) [] ≡ s .park .channel i j
+      go : (p q : Bool) → ltb i 8 ≡ p → ltb j 8 ≡ q → cond (p && q) (carsShown (channelIndex i j) (itemWords count s)) [] ≡ s .park .channel i j
       go true true e f = cars-read i j (ltb-true i 8 e) (ltb-true j 8 f)
       go true false e f = sym (fits .channel-off i j (rw f))
       go false q e f = sym (fits .channel-off i j (off (onSite count i j) refl))
@@ -235,11 +235,11 @@ module _ (t : Terms) (s : Snapshot) (fits : Fits (t .count) s) (on : (k : ℕ) �
   }
 
 -- Calls between zones of the site hand nothing over where it has no channel.
-calls-sited : {ws : List ℕ} {r t : Run} → Chain ws r t → All (Sited (countOf (r .head))) (callsIn ws)
+calls-sited : {ws : List ℕ} {r t : Run} → Chain ws r t → All (Sited (countOf (r .head))) (ruleCallsIn ws)
 calls-sited done = tt
 calls-sited (next {ws = ws} {r} c d f typed a more) =
     let p = passed c r a in
-    rw d (sited c r p, subst (λ (x : Answer). All (Sited (countOf (x .run .head))) (callsIn ws)) (p .result) (calls-sited more))
+    rw d (sited c r p, subst (λ (x : Answer). All (Sited (countOf (x .run .head))) (ruleCallsIn ws)) (p .result) (calls-sited more))
 
 module _ (count i j : ℕ) (most : count ≤ 8) (off : onSite count i j ≡ false) where
   abbrev Elsewhere : Move → Type 0
@@ -279,7 +279,7 @@ module _ (count i j : ℕ) (most : count ≤ 8) (off : onSite count i j ≡ fals
   moves-elsewhere (start a ∷ cs) s h = moves-elsewhere cs (stepS (start a) s) (h .1)
 
 module _ (r : Run) (w : WholeRun r) (e : isReplayed r ≡ true) where
-  all-sited : All (Sited (countOf (r .head))) (callsIn (wordsAt r))
+  all-sited : All (Sited (countOf (r .head))) (ruleCallsIn (wordsAt r))
   unfolding openedRun
   all-sited = calls-sited (chain (wordsAt r) 0 (firstRun r) (reached r w e .accepted))
 
@@ -290,7 +290,7 @@ module _ (r : Run) (w : WholeRun r) (e : isReplayed r ≡ true) where
   snapshot-fits =
       let s = run-sound r w e in
       let site = sym (site-is r w e) in
-      let cs = callsIn (wordsAt r) in
+      let cs = ruleCallsIn (wordsAt r) in
       let first = firstSite r in
       let ms = inside (snapshotOf r .events) (moves cs first) in
       record {
@@ -315,7 +315,7 @@ module _ (r : Run) (w : WholeRun r) (e : isReplayed r ≡ true) where
 
   -- So demand 3 holds of what they show, once questions 12 and 13 are answered yes.
   pub recording-cuts : hasStarted (r .head) ≡ true → noRequests (countOf (r .head)) (r .channels) ≡ true → (rest : List ℕ)
-      → Cut (openingOf (openedWith r)) (callsIn (wordsAt r)) (shownIn (recordingBytes (termsOf (r .head)) (snapshotOf r) ++ rest))
+      → Cut (openingOf (openedWith r)) (ruleCallsIn (wordsAt r)) (shownIn (recordingBytes (termsOf (r .head)) (snapshotOf r) ++ rest))
   recording-cuts s q rest =
-      subst (Cut (openingOf (openedWith r)) (callsIn (wordsAt r))) (sym (recording-shows rest))
-      (consistent (openingOf (openedWith r)) (callsIn (wordsAt r)) (calls-allowed r w e) (complete-if r w e s q))
+      subst (Cut (openingOf (openedWith r)) (ruleCallsIn (wordsAt r))) (sym (recording-shows rest))
+      (consistent (openingOf (openedWith r)) (ruleCallsIn (wordsAt r)) (calls-allowed r w e) (complete-if r w e s q))

@@ -23,14 +23,14 @@ use Rattle.run.proofs.Parts.{zone-on}
 use Rattle.run.proofs.Refine.{opened-site}
 use Rattle.run.proofs.Whole.{opened-whole}
 use Rattle.journal.specs.Format.{journalBytes, openedWith, recordWords}
-use Rattle.journal.specs.InnerOwns.{ownNumbers}
+use Rattle.journal.specs.InnerOrdinals.{ordinalsOf}
 use Rattle.journal.specs.Reading.{replayed, recordsIn, readCall, openingIn}
 use Rattle.journal.specs.Writing.{isReplayed}
 use Rattle.journal.specs.declared.Reading.{Reading}
 use Rattle.journal.proofs.Accepted.{read-comes, read-tells}
 use Rattle.journal.proofs.Front.{begins-read, read-begins}
 use Rattle.journal.proofs.Same.{same-read, same-run, same-site}
-use Rattle.recording.specs.Call.{callsIn, snapshotOf}
+use Rattle.recording.specs.Call.{ruleCallsIn, snapshotOf}
 use Rattle.recording.specs.Layout.{joinBelow, zoneWords, channelWords, itemWords}
 use Rattle.recording.specs.InnerRecords.{itemsAt}
 use Rattle.recording.proofs.Chain.{chain, leads}
@@ -93,21 +93,21 @@ module _ (r : Run) (w : WholeRun r) (e : isReplayed r ≡ true) where
   pub first-site : siteOf (firstRun r) ≡ firstSite r
   first-site = opened-site (openedWith r) (is-open (openedWith r) (reached r w e .opened) .fits)
 
-  led : (run (callsIn (wordsAt r)) (firstSite r) ≡ siteOf r) × Allowed (callsIn (wordsAt r)) (firstSite r)
+  led : (run (ruleCallsIn (wordsAt r)) (firstSite r) ≡ siteOf r) × Allowed (ruleCallsIn (wordsAt r)) (firstSite r)
   led =
       let h = reached r w e in
       let (q, a) = leads (chain (wordsAt r) 0 (firstRun r) (h .accepted)) (opened-whole (openedWith r)) in
-      subst (λ (s : Site). (run (callsIn (wordsAt r)) s ≡ siteOf r) × Allowed (callsIn (wordsAt r)) s) first-site (q ∙ h .site, a)
+      subst (λ (s : Site). (run (ruleCallsIn (wordsAt r)) s ≡ siteOf r) × Allowed (ruleCallsIn (wordsAt r)) s) first-site (q ∙ h .site, a)
 
   -- The site of the run, by the rules, and the calls as the rules ask.
-  pub site-is : siteOf r ≡ run (callsIn (wordsAt r)) (firstSite r)
+  pub site-is : siteOf r ≡ run (ruleCallsIn (wordsAt r)) (firstSite r)
   site-is = sym (led .0)
 
-  pub calls-allowed : Allowed (callsIn (wordsAt r)) (firstSite r)
+  pub calls-allowed : Allowed (ruleCallsIn (wordsAt r)) (firstSite r)
   calls-allowed = led .1
 
   -- What the recording shows of a zone of the site.
-  zone-is : (i : ℕ) → i < countOf (r .head) → run (callsIn (wordsAt r)) (firstSite r) .zone i ≡ zoneAt (r .head) i
+  zone-is : (i : ℕ) → i < countOf (r .head) → run (ruleCallsIn (wordsAt r)) (firstSite r) .zone i ≡ zoneAt (r .head) i
   zone-is i h = ap (λ (s : Site). s .zone i) (led .0) ∙ zone-on r i h
 
   pub recorded-is : (i : ℕ) → i < countOf (r .head) → snapshotOf r .recorded i ≡ isPermanent (zoneAt (r .head) i .checkpoint)
@@ -120,10 +120,10 @@ module _ (r : Run) (w : WholeRun r) (e : isReplayed r ≡ true) where
       → snapshotOf r .park .stock i ≡ stockOf (zoneAt (r .head) i .checkpoint) (getD (r .head .opening .stocks) i 0)
   stock-is i h = ap₂ (λ (z : Local) (v : ℕ). stockOf (z .checkpoint) v) (zone-is i h) (getD-take (countOf (r .head)) (r .head .opening .stocks) i 0 h)
 
-  -- The items on the channel at a place, where sh lists the events shown of its two zones.
+  -- The items on the channel at an index, where sh lists the events shown of its two zones.
   pub items-of : (sh : List ℕ) (k : ℕ) → k < 64 → getD sh (k / 8) 0 ≡ snapshotOf r .events (k / 8)
       → getD sh (k % 8) 0 ≡ snapshotOf r .events (k % 8)
-      → channelWords (snapshotOf r) k ≡ itemsAt k sh (wordsAt r) (ownNumbers (wordsAt r) (firstRun r))
+      → channelWords (snapshotOf r) k ≡ itemsAt k sh (wordsAt r) (ordinalsOf (wordsAt r) (firstRun r))
   items-of sh k h fi fj =
       let q = reached r w e in
       sym (items-are (openedWith r) (wordsAt r) 0 (q .opened) (q .accepted) sh k h fi fj)
@@ -134,12 +134,12 @@ module _ (r : Run) (w : WholeRun r) (e : isReplayed r ≡ true) where
 
   pub item-words-are : (sh : List ℕ) → ((i : ℕ) → i < countOf (r .head) → getD sh i 0 ≡ eventsOf (zoneAt (r .head) i .checkpoint))
       → itemWords (countOf (r .head)) (snapshotOf r)
-      ≡ joinBelow 64 (λ k. cond (isChannel (countOf (r .head)) k) (itemsAt k sh (wordsAt r) (ownNumbers (wordsAt r) (firstRun r))) [])
+      ≡ joinBelow 64 (λ k. cond (isChannel (countOf (r .head)) k) (itemsAt k sh (wordsAt r) (ordinalsOf (wordsAt r) (firstRun r))) [])
   unfolding itemWords
   item-words-are sh fits = join-same 64 _ _ (λ k h. go k h (isChannel (countOf (r .head)) k) refl)
     where
       go : (k : ℕ) → k < 64 → (p : Bool) → isChannel (countOf (r .head)) k ≡ p
-          → cond p (channelWords (snapshotOf r) k) [] ≡ cond p (itemsAt k sh (wordsAt r) (ownNumbers (wordsAt r) (firstRun r))) []
+          → cond p (channelWords (snapshotOf r) k) [] ≡ cond p (itemsAt k sh (wordsAt r) (ordinalsOf (wordsAt r) (firstRun r))) []
       go k h true c =
           let (x, y) = pair-at (countOf (r .head)) k c in
           items-of sh k h (fits (k / 8) x ∙ sym (events-are (k / 8) x)) (fits (k % 8) y ∙ sym (events-are (k % 8) y))

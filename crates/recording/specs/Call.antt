@@ -21,12 +21,12 @@ use Rattle.run.specs.Opening.{openingOf}
 use Rattle.journal.specs.Format.{openedWith, recordWords}
 
 -- The calls of some records, in order, as the rules have them.
-abbrev pub callsIn : List ℕ → List Call
-callsIn ws = map callOf (format.callsIn ws)
+abbrev pub ruleCallsIn : List ℕ → List Call
+ruleCallsIn ws = map callOf (format.callsIn ws)
 
 -- The recording of a run, by the rules applied to its opening and its journal's calls.
 abbrev pub snapshotOf : Run → Snapshot
-snapshotOf r = snapshot (openingOf (openedWith r)) (callsIn (recordWords r))
+snapshotOf r = snapshot (openingOf (openedWith r)) (ruleCallsIn (recordWords r))
 
 -- Question 13: "Is every line free of requests?"
 unfoldable pub noRequests : ℕ → Channels → Bool

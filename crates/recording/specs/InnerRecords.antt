@@ -1,4 +1,4 @@
--- The items of a recording by the journal's records and their own-event numbers: what the code counts, shown in proofs/ to be the items of
+-- The items of a recording by the journal's records and their own-event ordinals: what the code counts, shown in proofs/ to be the items of
 -- the rules.
 use mathlib.Core.Bool.{Bool, _&&_}
 use mathlib.Core.List.{List, [], _∷_}
@@ -11,8 +11,8 @@ use Rattle.rules.specs.Change.{on, cons-if}
 abbrev pub isIn : ℕ → ℕ → Bool
 isIn number shown = leb 1 number && leb number shown
 
--- Is the record a message sent on the channel at place k, inside the sender's events; a receipt on it, inside the receiver's? The high
--- byte of a record's word is its kind and its channel's place.
+-- Is the record a message sent on the channel at index k, inside the sender's events; a receipt on it, inside the receiver's? The high
+-- byte of a record's word is its kind and its channel's index.
 abbrev pub sendsOn : ℕ → List ℕ → ℕ → ℕ → Bool
 sendsOn k shown w number = eqb (w / 256) k && isIn number (getD shown (k / 8) 0)
 
@@ -30,6 +30,6 @@ takenCount k shown [] ns = 0
 takenCount k shown (w ∷ ws) [] = 0
 takenCount k shown (w ∷ ws) (n ∷ ns) = on (takesOn k shown w n) suc (takenCount k shown ws ns)
 
--- The items on the channel at place k.
+-- The items on the channel at index k.
 abbrev pub itemsAt : ℕ → List ℕ → List ℕ → List ℕ → List ℕ
 itemsAt k shown ws ns = drop (takenCount k shown ws ns) (sentWords k shown ws ns)

@@ -21,7 +21,7 @@ joinBelow (suc n) f = joinBelow n f ++ f n
 abbrev pub zoneWords : Snapshot → ℕ → List ℕ
 zoneWords s i = (cond (s .recorded i) 32768 0 + s .events i) ∷ s .park .stock i ∷ []
 
--- The words of the items on the channel at place k; none where the site has no channel there.
+-- The words of the items on the channel at index k; none where the site has no channel there.
 abbrev pub channelWords : Snapshot → ℕ → List ℕ
 channelWords s k = map (sendRecord (k / mostZones) (k % mostZones)) (s .park .channel (k / mostZones) (k % mostZones))
 

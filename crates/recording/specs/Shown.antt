@@ -6,7 +6,7 @@ use lib.Dec.{leb, ltb, eqb}
 use Rattle.rules.specs.Change.{cons-if}
 use Rattle.rules.specs.Cut.{Snapshot}
 use Rattle.rules.specs.Limits.{mostZones}
-use Rattle.channel.specs.Channels.{place}
+use Rattle.channel.specs.Channels.{channelIndex}
 use Rattle.words.specs.Bytes.{wordAt, wordsFrom}
 use Rattle.words.specs.Header.{zonesIn, numberIn}
 
@@ -24,10 +24,10 @@ hasZone bytes k = ltb k (zonesIn (wordAt bytes 0))
 abbrev pub itemsIn : List ℕ → List ℕ
 itemsIn bytes = wordsFrom bytes (2 + 4 * zonesIn (wordAt bytes 0)) (numberIn (wordAt bytes 0))
 
--- The cars of the items on the channel at place k: kind 0 records, whose high byte is the place.
-abbrev pub carsAt : ℕ → List ℕ → List ℕ
-carsAt k [] = []
-carsAt k (w ∷ ws) = cons-if (eqb (w / 256) k) (w % 256) (carsAt k ws)
+-- The cars of the items on the channel at index k: kind 0 records, whose high byte is the index.
+abbrev pub carsShown : ℕ → List ℕ → List ℕ
+carsShown k [] = []
+carsShown k (w ∷ ws) = cons-if (eqb (w / 256) k) (w % 256) (carsShown k ws)
 
 abbrev pub shownIn : List ℕ → Snapshot
 shownIn bytes = record {
@@ -35,6 +35,6 @@ shownIn bytes = record {
   events = λ k. cond (hasZone bytes k) (zoneWord bytes k % 1024) 0;
   park = record {
     stock = λ k. cond (hasZone bytes k) (stockWord bytes k) 0;
-    channel = λ i j. cond (ltb i mostZones && ltb j mostZones) (carsAt (place i j) (itemsIn bytes)) [];
+    channel = λ i j. cond (ltb i mostZones && ltb j mostZones) (carsShown (channelIndex i j) (itemsIn bytes)) [];
   };
 }

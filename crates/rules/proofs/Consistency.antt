@@ -21,19 +21,19 @@ use Rattle.rules.proofs.Tests.{both-true, or-cases, or-right, and-left,
 use Rattle.rules.proofs.Lists.{keep}
 use Rattle.rules.proofs.Tagged.{Event, sending, receiving}
 use Rattle.rules.proofs.Untagged.{untag, plain, park≡, plain-steps, channel-after}
-use Rattle.rules.proofs.Checkpoints.{permanent-marked}
+use Rattle.rules.proofs.Checkpoints.{permanent-has-checkpoint}
 use Rattle.rules.proofs.History.{History, openH, IsPermanent, movesOf, history, now-run, moves-open}
 use Rattle.rules.proofs.Kept.{Fresh, fresh-open, fresh-calls, calls-keep}
 use Rattle.rules.proofs.Requests.{Due, Flow, flow-kept, flow-open, due-permanent}
 use Rattle.rules.proofs.Dependencies.{isSender, senderOf, Senders, senders-kept, senders-open}
 use Rattle.rules.proofs.Cutting.{parkOf, plain-park, openT, inFirst, inSecond, Closed, held, Halves, Cuts, cuts-kept, cuts-open}
 use Rattle.rules.proofs.Counting.{Fit, Counts, counts-kept, counts-open}
-use Rattle.rules.proofs.Shown.{marked-once, zone-events, starting-initiator, initiator-starting, initiator-events}
+use Rattle.rules.proofs.Shown.{checkpointed-once, zone-events, starting-initiator, initiator-starting, initiator-events}
 
 same-initiator : {o : Option ℕ} {a b : ℕ} → o ≡ some a → o ≡ some b → a ≡ b
 same-initiator e f = cc
 
--- A zone that is not shown firm is shown as it was opened.
+-- A zone that is not shown permanent ("firm") is shown as it was opened.
 not-shown : (c : Checkpoint) (opening : ℕ) → isPermanent c ≡ false → (eventsOf c ≡ 0) × (stockOf c opening ≡ opening)
 not-shown None opening e = (refl, refl)
 not-shown (Mutable s) opening e = (refl, refl)
@@ -207,7 +207,7 @@ module _ (v : Opening) (cs : List Call) (allowed : Allowed cs (openS v)) (comple
       p = ap (λ (s : Site). isPermanent (s .zone z .checkpoint)) now ∙ complete .0 .1
 
       go : (o : Option ℕ) → h .initiator ≡ o → (a : ℕ) × (h .initiator ≡ some a)
-      go none e = absurd (false≢true (sym (fresh .unmarked e z) ∙ permanent-marked (h .now .zone z .checkpoint) p))
+      go none e = absurd (false≢true (sym (fresh .no-checkpoint e z) ∙ permanent-has-checkpoint (h .now .zone z .checkpoint) p))
       go (some a) e = (a, e)
 
   starting : (a : ℕ) → h .initiator ≡ some a → Starting cs a
@@ -233,7 +233,7 @@ module _ (v : Opening) (cs : List Call) (allowed : Allowed cs (openS v)) (comple
     closed = cut-at .closed;
     least = λ X starts close z f. cut-at .least X (λ a e. starts a (starting a e)) close z f;
     initiator-events = λ a s. initiator-events v cs allowed a (recorded a s) s;
-    marking = marked-once v cs;
+    checkpointing = checkpointed-once v cs;
     zone-events = zone-events v cs allowed;
   }
 

@@ -11,7 +11,7 @@ use borrow.Author.Tests.{lt-ltb, le-ltb}
 use Rattle.rules.specs.Opening.{Opening}
 use Rattle.rules.specs.Change.{on, join, cons-if}
 use Rattle.rules.specs.Sets.{nobody}
-use Rattle.rules.specs.Zone.{isMarked, saved, sent, received, checkpointAfter, requested, madePermanent}
+use Rattle.rules.specs.Zone.{hasCheckpoint, saved, sent, received, checkpointAfter, requested, madePermanent}
 use Rattle.rules.specs.Park.{Move, owner, own, counted, insideFrom, outsideFrom, inside, outside}
 use Rattle.rules.specs.declared.Local.{Local}
 use Rattle.rules.specs.declared.Saved.{Saved}
@@ -78,7 +78,7 @@ none-inside ev n e = le-ltb ev n (omega arith)
 
 -- What fits after a zone's event fits before it, and says whether the event is inside: it is if it comes before the checkpoint.
 fit-send : (p : Bool) (k : Checkpoint) (ev n : ℕ) → eventsAt k ≤ ev → Fit p k (ev + 1) n
-    → Fit p k ev n × (ltb ev n ≡ p && not (isMarked k))
+    → Fit p k ev n × (ltb ev n ≡ p && not (hasCheckpoint k))
 fit-send false k ev n le f = (f, none-inside ev n f)
 fit-send true None ev n le f = (omega arith, lt-ltb ev n (omega arith))
 fit-send true (Mutable s) ev n le f = (f, le-ltb ev n (omega arith))
@@ -86,7 +86,7 @@ fit-send true (Permanent s) ev n le f = (f, le-ltb ev n (omega arith))
 
 fit-receive : (p : Bool) (k : Checkpoint) (now : Saved) (flag : Bool) (n : ℕ) → eventsAt k ≤ now .events
     → Fit p (checkpointAfter k now flag) (now .events + 1) n
-    → Fit p k (now .events) n × (ltb (now .events) n ≡ p && not (isMarked k || flag))
+    → Fit p k (now .events) n × (ltb (now .events) n ≡ p && not (hasCheckpoint k || flag))
 fit-receive false k now flag n le f = (f, none-inside (now .events) n f)
 fit-receive true None now true n le f = (omega arith, le-ltb (now .events) n (omega arith))
 fit-receive true None now false n le f = (omega arith, lt-ltb (now .events) n (omega arith))

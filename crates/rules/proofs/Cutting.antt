@@ -10,7 +10,7 @@ use borrow.Author.Tests.{eqb-true, not-true}
 use Rattle.rules.specs.Opening.{Opening}
 use Rattle.rules.specs.Change.{on, join}
 use Rattle.rules.specs.Sets.{has, nobody}
-use Rattle.rules.specs.Zone.{isMarked, saved, sent, received, checkpointAfter, requested, madePermanent, asked, carried, opened}
+use Rattle.rules.specs.Zone.{hasCheckpoint, saved, sent, received, checkpointAfter, requested, madePermanent, targets, carried, opened}
 use Rattle.rules.specs.Site.{Item, message, request}
 use Rattle.rules.specs.Cut.{carsOn, present}
 use Rattle.rules.specs.declared.Local.{Local}
@@ -23,7 +23,7 @@ use Rattle.rules.proofs.Lists.{All, all-map, all-keep, keep, keep-join}
 use Rattle.rules.proofs.Tagged.{Tagged, Event, sending, receiving, zoneOf, isPost, TaggedPark, tagged, handedT, takenT, Step, Apart, tagged≡, Steps, steps-join, forward}
 use Rattle.rules.proofs.Untagged.{carsOf, plain, park≡}
 use Rattle.rules.proofs.Checkpoints.{has-depsAfter}
-use Rattle.rules.proofs.History.{History, openH, Unmarked, Depends, sendingOf, receivingOf, sendH, receiveH, popH, turnH, beginH, at-channel}
+use Rattle.rules.proofs.History.{History, openH, NoCheckpoint, Depends, sendingOf, receivingOf, sendH, receiveH, popH, turnH, beginH, at-channel}
 use Rattle.rules.proofs.Kept.{Kept}
 use Rattle.rules.proofs.Dependencies.{PreOnly, pre-kept}
 
@@ -82,10 +82,10 @@ messages-join [] c flag = refl
 messages-join (message d n ∷ l) c flag = ap (λ t. tagged d n ∷ t) (messages-join l c flag)
 messages-join (request set ∷ l) c flag = messages-join l c flag
 
-messages-ask : (l : List Item) (set : ℕ) → messages (join (request set) l) ≡ messages l
-messages-ask [] set = refl
-messages-ask (message d n ∷ l) set = ap (λ t. tagged d n ∷ t) (messages-ask l set)
-messages-ask (request q ∷ l) set = messages-ask l set
+messages-request : (l : List Item) (set : ℕ) → messages (join (request set) l) ≡ messages l
+messages-request [] set = refl
+messages-request (message d n ∷ l) set = ap (λ t. tagged d n ∷ t) (messages-request l set)
+messages-request (request q ∷ l) set = messages-request l set
 
 -- At the channel whose first item is taken.
 messages-tail : (p : Bool) (l : List Item) (c : ℕ) (flag : Bool) (r : List Item) → (p ≡ true → l ≡ message c flag ∷ r)
@@ -98,11 +98,11 @@ messages-drop : (p : Bool) (l : List Item) (set : ℕ) (r : List Item) → (p �
 messages-drop true l set r e = rw (e refl)
 messages-drop false l set r e = refl
 
-park-send : (a b c : ℕ) (h : History) → parkOf (sendH a b c h) ≡ handedT a b c (isMarked (h .now .zone a .checkpoint)) (parkOf h)
+park-send : (a b c : ℕ) (h : History) → parkOf (sendH a b c h) ≡ handedT a b c (hasCheckpoint (h .now .zone a .checkpoint)) (parkOf h)
 park-send a b c h = tagged≡ _ _
     (λ k. on-map (λ (z : Local). z .stock) (eqb k a) (sent c) (λ n. n - c) (h .now .zone k) refl)
     (λ i j. on-map messages (eqb i a && eqb j b) _ _ (h .now .channel i j)
-    (messages-join (h .now .channel i j) c (isMarked (h .now .zone a .checkpoint))))
+    (messages-join (h .now .channel i j) c (hasCheckpoint (h .now .zone a .checkpoint))))
 
 park-receive : (a b c : ℕ) (flag : Bool) (l : List Item) (h : History) → h .now .channel a b ≡ message c flag ∷ l
     → parkOf (receiveH a b c flag h) ≡ takenT a b c (parkOf h)
@@ -117,9 +117,9 @@ park-pop a b set l h e = tagged≡ _ _ (λ k. refl)
 park-turn : (b set : ℕ) (h : History) → parkOf (turnH b set h) ≡ parkOf h
 park-turn b set h = tagged≡ _ _
     (λ k. on-same (λ (z : Local). z .stock) (eqb k b) requested (h .now .zone k) refl)
-    (λ i j. on-same messages (eqb i b && has (asked b set (h .now .zone b)) j) (join (request (carried set (h .now .zone b))))
+    (λ i j. on-same messages (eqb i b && has (targets b set (h .now .zone b)) j) (join (request (carried set (h .now .zone b))))
     (h .now .channel i j)
-    (messages-ask (h .now .channel i j) _))
+    (messages-request (h .now .channel i j) _))
 
 -- A step without an event keeps the cut.
 silent : (v : Opening) (h t : History) → t .log ≡ h .log → parkOf t ≡ parkOf h
@@ -151,17 +151,17 @@ turn-cuts v b set h t l z y = silent v h (turnH b set t) l (park-turn b set t �
     (λ k p. on-same (λ (w : Local). held p w (v .stocks k)) (eqb k b) requested (t .now .zone k) (held-requested p (t .now .zone k) (v .stocks k))
     ∙ ap (λ (f : ℕ → Local). held p (f k) (v .stocks k)) z)
 
--- An unmarked zone of F has no event in the second part.
-not-own : (F : ℕ → Bool) (h : History) (z : ℕ) → F z ≡ true → Unmarked h z → (e : Event)
-    → (Unmarked h (zoneOf e) → isPost e ≡ false)
+-- A zone of F without a checkpoint has no event in the second part.
+not-own : (F : ℕ → Bool) (h : History) (z : ℕ) → F z ≡ true → NoCheckpoint h z → (e : Event)
+    → (NoCheckpoint h (zoneOf e) → isPost e ≡ false)
     → inSecond F e ≡ true → zoneOf e ≢ z
 not-own F h z f u e k t q =
-    let w : isPost e ≡ false = k (subst (Unmarked h) (sym q) u) in
+    let w : isPost e ≡ false = k (subst (NoCheckpoint h) (sym q) u) in
     let x : inSecond F e ≡ false = rw (w, q, f) in
     true≢false (sym t ∙ x)
 
-apart-send : (F : ℕ → Bool) (h : History) (a b c : ℕ) (m : Bool) → F a ≡ true → Unmarked h a
-    → (e : Event) → (Unmarked h (zoneOf e) → isPost e ≡ false) → inSecond F e ≡ true → Apart e (sending a b c m)
+apart-send : (F : ℕ → Bool) (h : History) (a b c : ℕ) (m : Bool) → F a ≡ true → NoCheckpoint h a
+    → (e : Event) → (NoCheckpoint h (zoneOf e) → isPost e ≡ false) → inSecond F e ≡ true → Apart e (sending a b c m)
 apart-send F h a b c m f u (sending x y d n) k t = not-own F h a f u (sending x y d n) k t
 apart-send F h a b c m f u (receiving x y d n) k t = not-own F h a f u (receiving x y d n) k t
 
@@ -171,8 +171,8 @@ post-second true true e t = refl
 post-second true false e t = t
 post-second false n e t = absurd (false≢true e)
 
-apart-receive : (F : ℕ → Bool) (h : History) (a b c : ℕ) (m : Bool) → m ≡ false → F a ≡ true → F b ≡ true → Unmarked h b
-    → (e : Event) → (Unmarked h (zoneOf e) → isPost e ≡ false) → inSecond F e ≡ true → Apart e (receiving a b c m)
+apart-receive : (F : ℕ → Bool) (h : History) (a b c : ℕ) (m : Bool) → m ≡ false → F a ≡ true → F b ≡ true → NoCheckpoint h b
+    → (e : Event) → (NoCheckpoint h (zoneOf e) → isPost e ≡ false) → inSecond F e ≡ true → Apart e (receiving a b c m)
 apart-receive F h a b c m q fa f u (sending x y d n) k t =
     (not-own F h b f u (sending x y d n) k t, q, λ w. post-second (F x) n (ap F w ∙ fa) t)
 apart-receive F h a b c m q fa f u (receiving x y d n) k t = not-own F h b f u (receiving x y d n) k t
@@ -207,45 +207,45 @@ module _ (v : Opening) (F : ℕ → Bool) (h t : History) (e : Event) (step : St
   }
 
 -- What a zone holds after an event of the first part, and after one of the second.
-stock-sent : (k : Checkpoint) (v w : ℕ) → not (isMarked k) ≡ false → stockAt k v ≡ stockAt k w
+stock-sent : (k : Checkpoint) (v w : ℕ) → not (hasCheckpoint k) ≡ false → stockAt k v ≡ stockAt k w
 stock-sent None v w e = absurd (true≢false e)
 stock-sent (Mutable s) v w e = refl
 stock-sent (Permanent s) v w e = refl
 
-stock-send : (k : Checkpoint) (v c : ℕ) → not (isMarked k) ≡ true → stockAt k (v - c) ≡ stockAt k v - c
+stock-send : (k : Checkpoint) (v c : ℕ) → not (hasCheckpoint k) ≡ true → stockAt k (v - c) ≡ stockAt k v - c
 stock-send None v c e = refl
 stock-send (Mutable s) v c e = absurd (false≢true e)
 stock-send (Permanent s) v c e = absurd (false≢true e)
 
-held-send : (p : Bool) (c : ℕ) (z : Local) (o : ℕ) → p && not (isMarked (z .checkpoint)) ≡ true
+held-send : (p : Bool) (c : ℕ) (z : Local) (o : ℕ) → p && not (hasCheckpoint (z .checkpoint)) ≡ true
     → held p (sent c z) o ≡ held p z o - c
 held-send true c z o e = stock-send (z .checkpoint) (z .stock) c e
 held-send false c z o e = absurd (false≢true e)
 
-held-sent : (p : Bool) (c : ℕ) (z : Local) (o : ℕ) → p && not (isMarked (z .checkpoint)) ≡ false → held p (sent c z) o ≡ held p z o
+held-sent : (p : Bool) (c : ℕ) (z : Local) (o : ℕ) → p && not (hasCheckpoint (z .checkpoint)) ≡ false → held p (sent c z) o ≡ held p z o
 held-sent true c z o e = stock-sent (z .checkpoint) (z .stock - c) (z .stock) e
 held-sent false c z o e = refl
 
-stock-receive : (k : Checkpoint) (now : Saved) (flag : Bool) (c : ℕ) → not (isMarked k || flag) ≡ true
+stock-receive : (k : Checkpoint) (now : Saved) (flag : Bool) (c : ℕ) → not (hasCheckpoint k || flag) ≡ true
     → stockAt (checkpointAfter k now flag) (now .stock + c) ≡ stockAt k (now .stock) + c
 stock-receive None now true c e = absurd (false≢true e)
 stock-receive None now false c e = refl
 stock-receive (Mutable s) now flag c e = absurd (false≢true e)
 stock-receive (Permanent s) now flag c e = absurd (false≢true e)
 
-stock-received : (k : Checkpoint) (now : Saved) (flag : Bool) (c : ℕ) → not (isMarked k || flag) ≡ false
+stock-received : (k : Checkpoint) (now : Saved) (flag : Bool) (c : ℕ) → not (hasCheckpoint k || flag) ≡ false
     → stockAt (checkpointAfter k now flag) (now .stock + c) ≡ stockAt k (now .stock)
 stock-received None now true c e = refl
 stock-received None now false c e = absurd (true≢false e)
 stock-received (Mutable s) now flag c e = refl
 stock-received (Permanent s) now flag c e = refl
 
-held-receive : (p : Bool) (a c : ℕ) (flag : Bool) (z : Local) (o : ℕ) → p && not (isMarked (z .checkpoint) || flag) ≡ true
+held-receive : (p : Bool) (a c : ℕ) (flag : Bool) (z : Local) (o : ℕ) → p && not (hasCheckpoint (z .checkpoint) || flag) ≡ true
     → held p (received a c flag z) o ≡ held p z o + c
 held-receive true a c flag z o e = stock-receive (z .checkpoint) (saved z) flag c e
 held-receive false a c flag z o e = absurd (false≢true e)
 
-held-received : (p : Bool) (a c : ℕ) (flag : Bool) (z : Local) (o : ℕ) → p && not (isMarked (z .checkpoint) || flag) ≡ false
+held-received : (p : Bool) (a c : ℕ) (flag : Bool) (z : Local) (o : ℕ) → p && not (hasCheckpoint (z .checkpoint) || flag) ≡ false
     → held p (received a c flag z) o ≡ held p z o
 held-received true a c flag z o e = stock-received (z .checkpoint) (saved z) flag c e
 held-received false a c flag z o e = refl
@@ -254,7 +254,7 @@ send-cuts : (v : Opening) (a b c : ℕ) (h : History) → c ≤ h .now .zone a .
 send-cuts v a b c h le pre cuts F closed = go (inFirst F e) refl
   where
     m : Bool
-    m = isMarked (h .now .zone a .checkpoint)
+    m = hasCheckpoint (h .now .zone a .checkpoint)
 
     e : Event
     e = sendingOf a b c (h .now)
@@ -268,8 +268,8 @@ send-cuts v a b c h le pre cuts F closed = go (inFirst F e) refl
     step : Step e (parkOf h) (parkOf t)
     step = (le, park-send a b c h)
 
-    same : (z : ℕ) (p : Bool) → eqb z a ≡ true → inFirst F e ≡ p → F z && not (isMarked (h .now .zone z .checkpoint)) ≡ p
-    same z p q w = ap (λ (k : ℕ). F k && not (isMarked (h .now .zone k .checkpoint))) (eqb-true z a q) ∙ w
+    same : (z : ℕ) (p : Bool) → eqb z a ≡ true → inFirst F e ≡ p → F z && not (hasCheckpoint (h .now .zone z .checkpoint)) ≡ p
+    same z p q w = ap (λ (k : ℕ). F k && not (hasCheckpoint (h .now .zone k .checkpoint))) (eqb-true z a q) ∙ w
 
     go : (p : Bool) → inFirst F e ≡ p → Halves v F t
     go true q = one-first v F h t e step refl r q
@@ -287,7 +287,7 @@ receive-cuts : (v : Opening) (a b c : ℕ) (flag : Bool) (l : List Item) (h : Hi
 receive-cuts v a b c flag l h at pre cuts F closed = go (inFirst F e) refl
   where
     n : Bool
-    n = isMarked (h .now .zone b .checkpoint) || flag
+    n = hasCheckpoint (h .now .zone b .checkpoint) || flag
 
     e : Event
     e = receivingOf a b c flag (h .now)
@@ -305,13 +305,13 @@ receive-cuts v a b c flag l h at pre cuts F closed = go (inFirst F e) refl
       tagged c flag,
       messages l,
       ap messages at,
-      or-off-right (isMarked (h .now .zone b .checkpoint)) flag,
+      or-off-right (hasCheckpoint (h .now .zone b .checkpoint)) flag,
       park-receive a b c flag l h at,
       refl,
     )
 
-    same : (z : ℕ) (p : Bool) → eqb z b ≡ true → inFirst F e ≡ p → F z && not (isMarked (h .now .zone z .checkpoint) || flag) ≡ p
-    same z p q w = ap (λ (k : ℕ). F k && not (isMarked (h .now .zone k .checkpoint) || flag)) (eqb-true z b q) ∙ w
+    same : (z : ℕ) (p : Bool) → eqb z b ≡ true → inFirst F e ≡ p → F z && not (hasCheckpoint (h .now .zone z .checkpoint) || flag) ≡ p
+    same z p q w = ap (λ (k : ℕ). F k && not (hasCheckpoint (h .now .zone k .checkpoint) || flag)) (eqb-true z b q) ∙ w
 
     -- A receipt in the first part puts the sender into the dependency set.
     depended : not n ≡ true → Depends t b a

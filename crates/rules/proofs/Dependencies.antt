@@ -1,5 +1,5 @@
--- An unmarked zone has only events that count as before its checkpoint, and a dependency set is the zone itself and the senders of
--- its receipts before its checkpoint.
+-- A zone without a checkpoint has only events that count as before its checkpoint, and a dependency set is the zone itself and the senders
+-- of its receipts before its checkpoint.
 use mathlib.Core.Path.{_≡_, refl, sym, _∙_, ap}
 use mathlib.Core.Bool.{Bool, true, false, _&&_, _||_, not, and-true, and-false, or-false, or-assoc, true≢false}
 use mathlib.Core.List.{List, [], _∷_}
@@ -9,49 +9,49 @@ use borrow.Author.Tests.{eqb-true}
 use Rattle.rules.specs.Opening.{Opening}
 use Rattle.rules.specs.Change.{on, join}
 use Rattle.rules.specs.Sets.{has, nobody}
-use Rattle.rules.specs.Zone.{isMarked, sent, received, requested}
+use Rattle.rules.specs.Zone.{hasCheckpoint, sent, received, requested}
 use Rattle.rules.specs.declared.Local.{Local}
 use Rattle.rules.proofs.SetLaws.{has-only}
 use Rattle.rules.proofs.Tests.{eqb-refl, or-off-left}
 use Rattle.rules.proofs.Guarded.{on-same, on-true, on-back}
 use Rattle.rules.proofs.Lists.{All, all-join, all-map}
 use Rattle.rules.proofs.Tagged.{Event, sending, receiving, zoneOf, isPost}
-use Rattle.rules.proofs.Checkpoints.{marked-after, marked-made, has-depsAfter}
-use Rattle.rules.proofs.History.{History, openH, Unmarked, sendH, receiveH, popH, turnH, beginH}
+use Rattle.rules.proofs.Checkpoints.{has-checkpoint-after, has-checkpoint-made, has-depsAfter}
+use Rattle.rules.proofs.History.{History, openH, NoCheckpoint, sendH, receiveH, popH, turnH, beginH}
 use Rattle.rules.proofs.Kept.{Kept}
 
--- Every event of a zone that is unmarked now counts as before its checkpoint.
+-- Every event of a zone that has no checkpoint now counts as before its checkpoint.
 abbrev pub PreOnly : History → Type 0
-PreOnly h = All (λ e. Unmarked h (zoneOf e) → isPost e ≡ false) (h .log)
+PreOnly h = All (λ e. NoCheckpoint h (zoneOf e) → isPost e ≡ false) (h .log)
 
--- A zone unmarked after a step was so before it.
-unmarked-send : (a b c : ℕ) (h : History) (k : ℕ) → Unmarked (sendH a b c h) k → Unmarked h k
-unmarked-send a b c h k = on-back (λ (z : Local). isMarked (z .checkpoint) ≡ false) (eqb k a) (sent c) (h .now .zone k) (λ e. e)
+-- A zone without a checkpoint after a step was so before it.
+no-checkpoint-send : (a b c : ℕ) (h : History) (k : ℕ) → NoCheckpoint (sendH a b c h) k → NoCheckpoint h k
+no-checkpoint-send a b c h k = on-back (λ (z : Local). hasCheckpoint (z .checkpoint) ≡ false) (eqb k a) (sent c) (h .now .zone k) (λ e. e)
 
-unmarked-receive : (a b c : ℕ) (flag : Bool) (h : History) (k : ℕ) → Unmarked (receiveH a b c flag h) k → Unmarked h k
-unmarked-receive a b c flag h k = on-back (λ (z : Local). isMarked (z .checkpoint) ≡ false) (eqb k b) (received a c flag)
+no-checkpoint-receive : (a b c : ℕ) (flag : Bool) (h : History) (k : ℕ) → NoCheckpoint (receiveH a b c flag h) k → NoCheckpoint h k
+no-checkpoint-receive a b c flag h k = on-back (λ (z : Local). hasCheckpoint (z .checkpoint) ≡ false) (eqb k b) (received a c flag)
     (h .now .zone k)
-    (λ e. or-off-left _ flag (sym (marked-after (h .now .zone k .checkpoint) _ flag) ∙ e))
+    (λ e. or-off-left _ flag (sym (has-checkpoint-after (h .now .zone k .checkpoint) _ flag) ∙ e))
 
-unmarked-turn : (b set : ℕ) (h : History) (k : ℕ) → Unmarked (turnH b set h) k → Unmarked h k
-unmarked-turn b set h k = on-back (λ (z : Local). isMarked (z .checkpoint) ≡ false) (eqb k b) requested (h .now .zone k)
-    (λ e. absurd (true≢false (sym (marked-made (h .now .zone k .checkpoint) _) ∙ e)))
+no-checkpoint-turn : (b set : ℕ) (h : History) (k : ℕ) → NoCheckpoint (turnH b set h) k → NoCheckpoint h k
+no-checkpoint-turn b set h k = on-back (λ (z : Local). hasCheckpoint (z .checkpoint) ≡ false) (eqb k b) requested (h .now .zone k)
+    (λ e. absurd (true≢false (sym (has-checkpoint-made (h .now .zone k .checkpoint) _) ∙ e)))
 
-later : (h t : History) → ((k : ℕ) → Unmarked t k → Unmarked h k) → PreOnly h
-    → All (λ e. Unmarked t (zoneOf e) → isPost e ≡ false) (h .log)
+later : (h t : History) → ((k : ℕ) → NoCheckpoint t k → NoCheckpoint h k) → PreOnly h
+    → All (λ e. NoCheckpoint t (zoneOf e) → isPost e ≡ false) (h .log)
 later h t f p = all-map _ _ (h .log) (λ e g u. g (f (zoneOf e) u)) p
 
 pub pre-kept : Kept PreOnly
 pre-kept = record {
-  at-send = λ a b c h _ p. all-join _ (h .log) _ (later h (sendH a b c h) (unmarked-send a b c h) p)
-      (λ e. unmarked-send a b c h a e);
-  at-receive = λ a b c flag l h _ p. all-join _ (h .log) _ (later h (receiveH a b c flag h) (unmarked-receive a b c flag h) p)
-      (λ e. sym (marked-after (h .now .zone b .checkpoint) _ flag)
-      ∙ sym (ap (λ (z : Local). isMarked (z .checkpoint)) (on-true (eqb b b) (received a c flag) (h .now .zone b) (eqb-refl b)))
+  at-send = λ a b c h _ p. all-join _ (h .log) _ (later h (sendH a b c h) (no-checkpoint-send a b c h) p)
+      (λ e. no-checkpoint-send a b c h a e);
+  at-receive = λ a b c flag l h _ p. all-join _ (h .log) _ (later h (receiveH a b c flag h) (no-checkpoint-receive a b c flag h) p)
+      (λ e. sym (has-checkpoint-after (h .now .zone b .checkpoint) _ flag)
+      ∙ sym (ap (λ (z : Local). hasCheckpoint (z .checkpoint)) (on-true (eqb b b) (received a c flag) (h .now .zone b) (eqb-refl b)))
       ∙ e);
   at-drop = λ a b set l h _ _ p. p;
-  at-request = λ a b set l h _ _ p. later h (turnH b set (popH a b h)) (unmarked-turn b set (popH a b h)) p;
-  at-start = λ a h _ _ p. later h (turnH a nobody (beginH a h)) (unmarked-turn a nobody (beginH a h)) p;
+  at-request = λ a b set l h _ _ p. later h (turnH b set (popH a b h)) (no-checkpoint-turn b set (popH a b h)) p;
+  at-start = λ a h _ _ p. later h (turnH a nobody (beginH a h)) (no-checkpoint-turn a nobody (beginH a h)) p;
 }
 
 -- Is the event a receipt by j from i before j's checkpoint?
@@ -75,13 +75,13 @@ receive-senders : (a b c : ℕ) (flag : Bool) (h : History) → Senders h → Se
 receive-senders a b c flag h s j i = rw (sender-join j i (h .log) _) (go (eqb j b) refl)
   where
     go : (p : Bool) → eqb j b ≡ p → has ((on p (received a c flag) (h .now .zone j)) .deps) i
-        ≡ eqb i j || (senderOf j i (h .log) || (not (isMarked (h .now .zone b .checkpoint) || flag) && (eqb i a && p)))
+        ≡ eqb i j || (senderOf j i (h .log) || (not (hasCheckpoint (h .now .zone b .checkpoint) || flag) && (eqb i a && p)))
     go true e =
-        let w = ap (λ (k : ℕ). isMarked (h .now .zone k .checkpoint)) (eqb-true j b e) in
+        let w = ap (λ (k : ℕ). hasCheckpoint (h .now .zone k .checkpoint)) (eqb-true j b e) in
         rw (and-true (eqb i a), ← or-assoc, ← s j i, ← w)
         (has-depsAfter (h .now .zone j .checkpoint) (h .now .zone j .deps) a flag i)
     go false e =
-        rw (and-false (eqb i a), and-false (not (isMarked (h .now .zone b .checkpoint) || flag)), or-false (senderOf j i (h .log)))
+        rw (and-false (eqb i a), and-false (not (hasCheckpoint (h .now .zone b .checkpoint) || flag)), or-false (senderOf j i (h .log)))
         (s j i)
 
 pub senders-kept : Kept Senders

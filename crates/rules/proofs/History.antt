@@ -9,7 +9,7 @@ use lib.Dec.{eqb}
 use Rattle.rules.specs.Opening.{Opening}
 use Rattle.rules.specs.Change.{join}
 use Rattle.rules.specs.Sets.{has}
-use Rattle.rules.specs.Zone.{isMarked, isPermanent}
+use Rattle.rules.specs.Zone.{hasCheckpoint, isPermanent}
 use Rattle.rules.specs.Site.{Item, message, request, Site, sendS, receiveS, popS, turnS, startS, Call, send, receive, start, stepS, openS}
 use Rattle.rules.specs.Park.{Move}
 use Rattle.rules.specs.Cut.{Allowed, run, taking, moveOf, moves}
@@ -28,8 +28,8 @@ abbrev pub openH : Opening → History
 openH v = record { now = openS v; initiator = none; log = [] }
 
 -- What is asked of a zone at the end of a history.
-abbrev pub Unmarked : History → ℕ → Type 0
-Unmarked h k = isMarked (h .now .zone k .checkpoint) ≡ false
+abbrev pub NoCheckpoint : History → ℕ → Type 0
+NoCheckpoint h k = hasCheckpoint (h .now .zone k .checkpoint) ≡ false
 
 abbrev pub IsPermanent : History → ℕ → Type 0
 IsPermanent h k = isPermanent (h .now .zone k .checkpoint) ≡ true
@@ -37,12 +37,12 @@ IsPermanent h k = isPermanent (h .now .zone k .checkpoint) ≡ true
 abbrev pub Depends : History → ℕ → ℕ → Type 0
 Depends h k i = has (h .now .zone k .deps) i ≡ true
 
--- The steps. An event is tagged by whether its zone is marked; a flag marks the receiver before it receives.
+-- The steps. An event is tagged by whether its zone has a checkpoint; a flag gives the receiver one before it receives.
 abbrev pub sendingOf : ℕ → ℕ → ℕ → Site → Event
-sendingOf a b c s = sending a b c (isMarked (s .zone a .checkpoint))
+sendingOf a b c s = sending a b c (hasCheckpoint (s .zone a .checkpoint))
 
 abbrev pub receivingOf : ℕ → ℕ → ℕ → Bool → Site → Event
-receivingOf a b c flag s = receiving a b c (isMarked (s .zone b .checkpoint) || flag)
+receivingOf a b c flag s = receiving a b c (hasCheckpoint (s .zone b .checkpoint) || flag)
 
 abbrev pub sendH : ℕ → ℕ → ℕ → History → History
 sendH a b c h = record { now = sendS a b c (h .now); initiator = h .initiator; log = join (sendingOf a b c (h .now)) (h .log) }

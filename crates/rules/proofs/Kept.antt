@@ -1,5 +1,5 @@
 -- What each step of a history does or keeps, every list of allowed calls does or keeps. A start is a request from nobody, since
--- before the first start no zone is marked, and there is no second.
+-- before the first start no zone has a checkpoint, and there is no second.
 use mathlib.Core.Path.{_≡_, refl, sym, _∙_, ap, subst}
 use mathlib.Core.Bool.{Bool, true, false, _&&_, _||_, not, true≢false}
 use mathlib.Core.List.{List, [], _∷_, tail}
@@ -10,15 +10,15 @@ use borrow.Author.Tests.{eqb-true}
 use Rattle.rules.specs.Opening.{Opening}
 use Rattle.rules.specs.Change.{on, join}
 use Rattle.rules.specs.Sets.{nobody}
-use Rattle.rules.specs.Zone.{isMarked, isPermanent, sent, received, started, requested}
+use Rattle.rules.specs.Zone.{hasCheckpoint, isPermanent, sent, received, started, requested}
 use Rattle.rules.specs.Site.{Item, message, request, popS, turnS, takeS, startS, Call, send, receive, start}
 use Rattle.rules.specs.Cut.{May, Allowed}
 use Rattle.rules.specs.declared.Local.{Local}
 use Rattle.rules.proofs.Tests.{eqb-refl}
 use Rattle.rules.proofs.Guarded.{on-keeps, on-true}
 use Rattle.rules.proofs.Lists.{All, all-join, all-tail}
-use Rattle.rules.proofs.Checkpoints.{marked-after, permanent-after, permanent-made, started-requested}
-use Rattle.rules.proofs.History.{History, openH, Unmarked, IsPermanent, sendH, receiveH, popH, turnH, beginH, startH, logTaken, stepH, history}
+use Rattle.rules.proofs.Checkpoints.{has-checkpoint-after, permanent-after, permanent-made, started-requested}
+use Rattle.rules.proofs.History.{History, openH, NoCheckpoint, IsPermanent, sendH, receiveH, popH, turnH, beginH, startH, logTaken, stepH, history}
 
 -- R leads from each history to the next, whatever the step.
 pub record Does {κ} (R : History → History → Type κ) : Type κ where
@@ -29,7 +29,7 @@ pub record Does {κ} (R : History → History → Type κ) : Type κ where
       → isPermanent (h .now .zone b .checkpoint) ≡ true → R h (popH a b h)
   pub at-request : (a b set : ℕ) (l : List Item) (h : History) → h .now .channel a b ≡ request set ∷ l
       → isPermanent (h .now .zone b .checkpoint) ≡ false → R h (turnH b set (popH a b h))
-  pub at-start : (a : ℕ) (h : History) → h .initiator ≡ none → ((z : ℕ) → Unmarked h z) → R h (turnH a nobody (beginH a h))
+  pub at-start : (a : ℕ) (h : History) → h .initiator ≡ none → ((z : ℕ) → NoCheckpoint h z) → R h (turnH a nobody (beginH a h))
 
 -- P is kept, whatever the step.
 abbrev pub Kept {κ} : (History → Type κ) → Type κ
@@ -41,7 +41,7 @@ Calm (message c flag) = flag ≡ false
 Calm (request set) = ⊥
 
 pub record Fresh (h : History) : Type 0 where
-  pub unmarked : h .initiator ≡ none → (z : ℕ) → Unmarked h z
+  pub no-checkpoint : h .initiator ≡ none → (z : ℕ) → NoCheckpoint h z
   pub calm : h .initiator ≡ none → (i j : ℕ) → All Calm (h .now .channel i j)
   pub begun : (a : ℕ) → h .initiator ≡ some a → IsPermanent h a
 
@@ -51,35 +51,35 @@ some≢none e = let z : _≡_ {A = Bool} true false = cc in true≢false z
 fresh-kept : Kept Fresh
 fresh-kept = record {
   at-send = λ a b c h _ f. record {
-    unmarked = λ e z. on-keeps (λ (k : Local). isMarked (k .checkpoint) ≡ false) (eqb z a) (sent c) (h .now .zone z) (λ q. q)
-        (f .unmarked e z);
-    calm = λ e i j. on-keeps (All Calm) (eqb i a && eqb j b) (join (message c (isMarked (h .now .zone a .checkpoint))))
+    no-checkpoint = λ e z. on-keeps (λ (k : Local). hasCheckpoint (k .checkpoint) ≡ false) (eqb z a) (sent c) (h .now .zone z) (λ q. q)
+        (f .no-checkpoint e z);
+    calm = λ e i j. on-keeps (All Calm) (eqb i a && eqb j b) (join (message c (hasCheckpoint (h .now .zone a .checkpoint))))
         (h .now .channel i j)
-        (λ w. all-join Calm (h .now .channel i j) _ w (f .unmarked e a)) (f .calm e i j);
+        (λ w. all-join Calm (h .now .channel i j) _ w (f .no-checkpoint e a)) (f .calm e i j);
     begun = λ x e. on-keeps (λ (k : Local). isPermanent (k .checkpoint) ≡ true) (eqb x a) (sent c) (h .now .zone x) (λ q. q)
         (f .begun x e);
   };
   at-receive = λ a b c flag l h at f. record {
-    unmarked = λ e z. on-keeps (λ (k : Local). isMarked (k .checkpoint) ≡ false) (eqb z b) (received a c flag) (h .now .zone z)
-        (λ q. marked-after (h .now .zone z .checkpoint) _ flag ∙ ap (λ (t : Bool). t || flag) q
-        ∙ first a b c flag l h at (f .calm e)) (f .unmarked e z);
+    no-checkpoint = λ e z. on-keeps (λ (k : Local). hasCheckpoint (k .checkpoint) ≡ false) (eqb z b) (received a c flag) (h .now .zone z)
+        (λ q. has-checkpoint-after (h .now .zone z .checkpoint) _ flag ∙ ap (λ (t : Bool). t || flag) q
+        ∙ first a b c flag l h at (f .calm e)) (f .no-checkpoint e z);
     calm = λ e i j. on-keeps (All Calm) (eqb i a && eqb j b) tail (h .now .channel i j) (all-tail Calm (h .now .channel i j))
         (f .calm e i j);
     begun = λ x e. on-keeps (λ (k : Local). isPermanent (k .checkpoint) ≡ true) (eqb x b) (received a c flag) (h .now .zone x)
         (λ q. permanent-after (h .now .zone x .checkpoint) _ flag ∙ q) (f .begun x e);
   };
   at-drop = λ a b set l h at _ f. record {
-    unmarked = f .unmarked;
-    calm = λ e. absurd (asking a b set l h at (f .calm e));
+    no-checkpoint = f .no-checkpoint;
+    calm = λ e. absurd (no-request a b set l h at (f .calm e));
     begun = f .begun;
   };
   at-request = λ a b set l h at _ f. record {
-    unmarked = λ e. absurd (asking a b set l h at (f .calm e));
-    calm = λ e. absurd (asking a b set l h at (f .calm e));
+    no-checkpoint = λ e. absurd (no-request a b set l h at (f .calm e));
+    calm = λ e. absurd (no-request a b set l h at (f .calm e));
     begun = λ x e. turned b set (popH a b h) x (f .begun x e);
   };
   at-start = λ a h _ _ f. record {
-    unmarked = λ e. absurd (some≢none e);
+    no-checkpoint = λ e. absurd (some≢none e);
     calm = λ e. absurd (some≢none e);
     begun = λ x e.
         let i : a ≡ x = cc in
@@ -92,16 +92,16 @@ fresh-kept = record {
         → ((i j : ℕ) → All Calm (h .now .channel i j)) → flag ≡ false
     first a b c flag l h at q = (subst (All Calm) at (q a b)) .0
 
-    asking : (a b set : ℕ) (l : List Item) (h : History) → h .now .channel a b ≡ request set ∷ l
+    no-request : (a b set : ℕ) (l : List Item) (h : History) → h .now .channel a b ≡ request set ∷ l
         → ((i j : ℕ) → All Calm (h .now .channel i j)) → ⊥
-    asking a b set l h at q = (subst (All Calm) at (q a b)) .0
+    no-request a b set l h at q = (subst (All Calm) at (q a b)) .0
 
     turned : (b set : ℕ) (h : History) (x : ℕ) → IsPermanent h x → IsPermanent (turnH b set h) x
     turned b set h x = on-keeps (λ (k : Local). isPermanent (k .checkpoint) ≡ true) (eqb x b) requested (h .now .zone x)
         (λ q. permanent-made (h .now .zone x .checkpoint) _)
 
 pub fresh-open : (v : Opening) → Fresh (openH v)
-fresh-open v = record { unmarked = λ e z. refl; calm = λ e i j. tt; begun = λ a e. absurd (some≢none (sym e)) }
+fresh-open v = record { no-checkpoint = λ e z. refl; calm = λ e i j. tt; begun = λ a e. absurd (some≢none (sym e)) }
 
 -- A start that is allowed is the first.
 pub first-start : (a : ℕ) (h : History) → Fresh h → May (start a) (h .now) → h .initiator ≡ none
@@ -111,7 +111,7 @@ first-start a h f may = go (h .initiator) refl
     go none e = refl
     go (some x) e = absurd (true≢false (sym (f .begun x e) ∙ may x))
 
-start-turn : (a : ℕ) (h : History) → Unmarked h a → startH a h ≡ turnH a nobody (beginH a h)
+start-turn : (a : ℕ) (h : History) → NoCheckpoint h a → startH a h ≡ turnH a nobody (beginH a h)
 start-turn a h e = λ i. record {
   now = record { zone = λ k. zones k i; channel = (startS a (h .now)) .channel };
   initiator = some a;
@@ -122,7 +122,7 @@ start-turn a h e = λ i. record {
     zones k = go (eqb k a) refl
       where
         go : (p : Bool) → eqb k a ≡ p → on p started (h .now .zone k) ≡ on p requested (h .now .zone k)
-        go true q = started-requested (h .now .zone k) (ap (λ (x : ℕ). isMarked (h .now .zone x .checkpoint)) (eqb-true k a q) ∙ e)
+        go true q = started-requested (h .now .zone k) (ap (λ (x : ℕ). hasCheckpoint (h .now .zone x .checkpoint)) (eqb-true k a q) ∙ e)
         go false q = refl
 
 module _ {κ} (R : History → History → Type κ) (does : Does R) where
@@ -144,7 +144,7 @@ module _ {κ} (R : History → History → Type κ) (does : Does R) where
       go (request set ∷ l) at = turn set l (isPermanent (h .now .zone b .checkpoint)) at refl
   call-does (start a) h f may =
       let e = first-start a h f may in
-      subst (R h) (sym (start-turn a h (f .unmarked e a))) (does .at-start a h e (f .unmarked e))
+      subst (R h) (sym (start-turn a h (f .no-checkpoint e a))) (does .at-start a h e (f .no-checkpoint e))
 
 pub fresh-call : (c : Call) (h : History) → Fresh h → May c (h .now) → Fresh (stepH c h)
 fresh-call c h f may = call-does (λ h t. Fresh h → Fresh t) fresh-kept c h f may f

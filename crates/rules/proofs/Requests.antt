@@ -11,7 +11,7 @@ use borrow.Author.Tests.{eqb-true}
 use Rattle.rules.specs.Opening.{Opening}
 use Rattle.rules.specs.Change.{on, join}
 use Rattle.rules.specs.Sets.{has, nobody}
-use Rattle.rules.specs.Zone.{isMarked, isPermanent, depsAfter, sent, received, requested, asked, carried}
+use Rattle.rules.specs.Zone.{hasCheckpoint, isPermanent, depsAfter, sent, received, requested, targets, carried}
 use Rattle.rules.specs.Site.{Item, message, request, waits}
 use Rattle.rules.specs.declared.Local.{Local}
 use Rattle.rules.specs.declared.Checkpoint.{Checkpoint}
@@ -20,7 +20,7 @@ use Rattle.rules.proofs.SetLaws.{has-nobody}
 use Rattle.rules.proofs.Tests.{Same, same?, and-left, and-right, or-cases, or-left, eqb-refl, both-true}
 use Rattle.rules.proofs.Guarded.{on-keeps, on-same, on-true, on-false}
 use Rattle.rules.proofs.Lists.{All, all-join, all-tail, all-map}
-use Rattle.rules.proofs.Checkpoints.{permanent-after, permanent-made, has-depsAfter, has-asked, has-carried}
+use Rattle.rules.proofs.Checkpoints.{permanent-after, permanent-made, has-depsAfter, has-targets, has-carried}
 use Rattle.rules.proofs.History.{History, openH, IsPermanent, Depends, sendH, receiveH, popH, turnH, beginH, at-channel}
 use Rattle.rules.proofs.Kept.{Kept, some≢none}
 
@@ -76,11 +76,11 @@ fair-grows D E h t g f i j (request set) q = (g .permanents i (q .0), g .depende
 
 -- A request with a set makes zone b permanent.
 module _ (b set : ℕ) (h : History) where
-  abbrev asks : ℕ → Bool
-  asks j = has (asked b set (h .now .zone b)) j
+  abbrev isTarget : ℕ → Bool
+  isTarget j = has (targets b set (h .now .zone b)) j
 
-  abbrev asking : Item
-  asking = request (carried set (h .now .zone b))
+  abbrev sentRequest : Item
+  sentRequest = request (carried set (h .now .zone b))
 
   turn-grows : Grows h (turnH b set h)
   turn-grows = record {
@@ -114,11 +114,11 @@ module _ (b set : ℕ) (h : History) where
   turn-due k (inr (inl p)) = inl (turn-grows .permanents k p)
   turn-due k (inr (inr (i, w))) = inr (
     i,
-    on-keeps (λ (l : List Item). waits l ≡ true) (eqb i b && asks k) (join asking) (h .now .channel i k)
+    on-keeps (λ (l : List Item). waits l ≡ true) (eqb i b && isTarget k) (join sentRequest) (h .now .channel i k)
         (waits-join (h .now .channel i k) _) w,
   )
 
-  -- Those that b depends on are due now: named by the request, or b itself, or asked.
+  -- Those that b depends on are due now: named by the request, or b itself, or a target.
   turn-depended : ((k : ℕ) → has set k ≡ true → But k) → (k : ℕ) → Depends h b k → Due (turnH b set h) k
   turn-depended f k d = go (has set k) refl (same? k b)
     where
@@ -126,14 +126,14 @@ module _ (b set : ℕ) (h : History) where
       go true e q = turn-due k (f k e)
       go false e (inl q) = turn-due k (inl (q .0))
       go false e (inr q) =
-          let t : eqb b b && asks k ≡ true = rw (eqb-refl b) (has-asked b set (h .now .zone b) k ∙ rw (d, e, q .1)) in
-          inr (b, ap waits (on-true _ (join asking) (h .now .channel b k) t) ∙ waits-last (h .now .channel b k) _)
+          let t : eqb b b && isTarget k ≡ true = rw (eqb-refl b) (has-targets b set (h .now .zone b) k ∙ rw (d, e, q .1)) in
+          inr (b, ap waits (on-true _ (join sentRequest) (h .now .channel b k) t) ∙ waits-last (h .now .channel b k) _)
 
   turn-flow : (h .initiator ≡ none → ⊥) → ((k : ℕ) → has set k ≡ true → But k) → ((X : ℕ → Type 0) → Starts X h → Shut X h → X b)
       → Flow But h
       → Flow (Due (turnH b set h)) (turnH b set h)
   turn-flow st f x flow = record {
-    fair = λ i j. fair-channel i j (eqb i b && asks j) refl
+    fair = λ i j. fair-channel i j (eqb i b && isTarget j) refl
         (all-map _ _ (h .now .channel i j) (fair-grows But (Due t) h t turn-grows turn-due i j) (flow .fair i j));
     wanted = λ j i hj hi. want j i (turn-back j hj) (turn-depends j i hi);
     reach = λ X starts shut z hz. reached X starts
@@ -151,12 +151,12 @@ module _ (b set : ℕ) (h : History) where
           go (inl q) = turn-depended f k q
           go (inr q) = turn-due k (f k q)
 
-      fair-channel : (i j : ℕ) (p : Bool) → eqb i b && asks j ≡ p → All (Fair (Due t) t i j) (h .now .channel i j)
-          → All (Fair (Due t) t i j) (on p (join asking) (h .now .channel i j))
+      fair-channel : (i j : ℕ) (p : Bool) → eqb i b && isTarget j ≡ p → All (Fair (Due t) t i j) (h .now .channel i j)
+          → All (Fair (Due t) t i j) (on p (join sentRequest) (h .now .channel i j))
       fair-channel i j false e l = l
       fair-channel i j true e l =
-          let q = eqb-true i b (and-left (eqb i b) (asks j) e) in
-          let d : Depends h b j = and-left _ _ (sym (has-asked b set (h .now .zone b) j) ∙ and-right (eqb i b) (asks j) e) in
+          let q = eqb-true i b (and-left (eqb i b) (isTarget j) e) in
+          let d : Depends h b j = and-left _ _ (sym (has-targets b set (h .now .zone b) j) ∙ and-right (eqb i b) (isTarget j) e) in
           all-join _ (h .now .channel i j) _ l (
             subst (IsPermanent t) (sym q) turn-permanent,
             turn-grows .dependencies i j (subst (λ (w : ℕ). Depends h w j) (sym q) d),
@@ -229,7 +229,7 @@ send-flow a b c h = still-flow h (sendH a b c h)
     (λ q′. all-join _ (h .now .channel i j) x q′ tt) q)
   where
     x : Item
-    x = message c (isMarked (h .now .zone a .checkpoint))
+    x = message c (hasCheckpoint (h .now .zone a .checkpoint))
 
     same : (k : ℕ) → isPermanent ((sendH a b c h) .now .zone k .checkpoint) ≡ isPermanent (h .now .zone k .checkpoint)
     same k = on-same (λ (z : Local). isPermanent (z .checkpoint)) (eqb k a) (sent c) (h .now .zone k) refl

@@ -9,25 +9,25 @@ use lib.Dec.{eqb}
 use Rattle.rules.specs.Opening.{Opening}
 use Rattle.rules.specs.Change.{on}
 use Rattle.rules.specs.Sets.{nobody}
-use Rattle.rules.specs.Zone.{isMarked, isPermanent, saved, sent, received, checkpointAfter, started, requested, madePermanent}
+use Rattle.rules.specs.Zone.{hasCheckpoint, isPermanent, saved, sent, received, checkpointAfter, started, requested, madePermanent}
 use Rattle.rules.specs.Site.{Site, Call, send, receive, start, stepS, openS}
 use Rattle.rules.specs.Park.{own}
-use Rattle.rules.specs.Cut.{Allowed, run, moves, eventsOf, Marking, Starting}
+use Rattle.rules.specs.Cut.{Allowed, run, moves, eventsOf, Checkpointing, Starting}
 use Rattle.rules.specs.declared.Local.{Local}
 use Rattle.rules.specs.declared.Saved.{Saved}
 use Rattle.rules.specs.declared.Checkpoint.{Checkpoint}
 use Rattle.rules.specs.declared.Checkpoint.the-variants.{None, Mutable, Permanent}
 use Rattle.rules.proofs.Tests.{eqb-refl}
 use Rattle.rules.proofs.Guarded.{on-true}
-use Rattle.rules.proofs.Checkpoints.{permanent-marked}
+use Rattle.rules.proofs.Checkpoints.{permanent-has-checkpoint}
 use Rattle.rules.proofs.History.{History, openH, popH, turnH, beginH, stepH, history, now-run, moves-open, history-append, allowed-append}
 use Rattle.rules.proofs.Kept.{Does, Kept, Fresh, some≢none, fresh-open, first-start, call-does, fresh-call, calls-keep, fresh-calls}
 use Rattle.rules.proofs.Counting.{eventsAt, counts-kept, counts-open, Counts}
 
 -- From checkpoint k, at ev events, to checkpoint l: a new one takes the present number of events, and an old one keeps its own.
 abbrev Next : Checkpoint → ℕ → Checkpoint → Type 0
-Next k ev l = (isMarked k ≡ false → isMarked l ≡ true → eventsAt l ≡ ev)
-    × (isMarked k ≡ true → (isMarked l ≡ true) × (eventsAt l ≡ eventsAt k))
+Next k ev l = (hasCheckpoint k ≡ false → hasCheckpoint l ≡ true → eventsAt l ≡ ev)
+    × (hasCheckpoint k ≡ true → (hasCheckpoint l ≡ true) × (eventsAt l ≡ eventsAt k))
 
 next-same : (k : Checkpoint) (ev : ℕ) → Next k ev k
 next-same k ev = (λ e f. absurd (false≢true (sym e ∙ f)), λ e. (e, refl))
@@ -67,7 +67,7 @@ onward = record {
 }
 
 -- A checkpoint stays, with its number of events.
-lasting : (cs : List Call) (h : History) → Fresh h → Allowed cs (h .now) → (z : ℕ) → isMarked (h .now .zone z .checkpoint) ≡ true
+lasting : (cs : List Call) (h : History) → Fresh h → Allowed cs (h .now) → (z : ℕ) → hasCheckpoint (h .now .zone z .checkpoint) ≡ true
     → eventsAt ((history cs h) .now .zone z .checkpoint) ≡ eventsAt (h .now .zone z .checkpoint)
 lasting [] h f al z e = refl
 lasting (c ∷ cs) h f al z e =
@@ -75,16 +75,16 @@ lasting (c ∷ cs) h f al z e =
     lasting cs (stepH c h) (fresh-call c h f (al .0)) (al .1) z (q .0) ∙ q .1
 
 -- So in the end it has the number of events before the call that made it.
-marked-events : (v : Opening) (before : List Call) (c : Call) (after : List Call) (z : ℕ) → Allowed (before ++ (c ∷ after)) (openS v)
-    → isMarked (run before (openS v) .zone z .checkpoint) ≡ false
-    → isMarked (stepS c (run before (openS v)) .zone z .checkpoint) ≡ true
+checkpoint-events : (v : Opening) (before : List Call) (c : Call) (after : List Call) (z : ℕ) → Allowed (before ++ (c ∷ after)) (openS v)
+    → hasCheckpoint (run before (openS v) .zone z .checkpoint) ≡ false
+    → hasCheckpoint (stepS c (run before (openS v)) .zone z .checkpoint) ≡ true
     → eventsAt (run (before ++ (c ∷ after)) (openS v) .zone z .checkpoint) ≡ own z (moves before (openS v))
-marked-events v before c after z al unmarked marked =
+checkpoint-events v before c after z al none-before one-after =
     let (al₀, al₁) = allowed-append before (c ∷ after) (openH v) al in
     let f = fresh-calls before (openH v) (fresh-open v) al₀ in
-    let u : isMarked (h .now .zone z .checkpoint) ≡ false = rw (now-run before (openH v)) unmarked in
-    let m : isMarked ((stepH c h) .now .zone z .checkpoint) ≡ true
-    = ap (λ (s : Site). isMarked (stepS c s .zone z .checkpoint)) (now-run before (openH v)) ∙ marked in
+    let u : hasCheckpoint (h .now .zone z .checkpoint) ≡ false = rw (now-run before (openH v)) none-before in
+    let m : hasCheckpoint ((stepH c h) .now .zone z .checkpoint) ≡ true
+    = ap (λ (s : Site). hasCheckpoint (stepS c s .zone z .checkpoint)) (now-run before (openH v)) ∙ one-after in
     ap (λ (s : Site). eventsAt (s .zone z .checkpoint)) (sym (now-run (before ++ (c ∷ after)) (openH v)))
     ∙ ap (λ (t : History). eventsAt (t .now .zone z .checkpoint)) (history-append before (c ∷ after) (openH v))
     ∙ lasting after (stepH c h) (fresh-call c h f (al₁ .0)) (al₁ .1) z m
@@ -102,38 +102,38 @@ events-permanent (Permanent s) e = refl
 
 pub zone-events : (v : Opening) (cs : List Call) → Allowed cs (openS v) → (z : ℕ)
     → isPermanent (run cs (openS v) .zone z .checkpoint) ≡ true
-    → (m : Marking v cs z) → eventsOf (run cs (openS v) .zone z .checkpoint) ≡ own z (moves (m .before) (openS v))
+    → (m : Checkpointing v cs z) → eventsOf (run cs (openS v) .zone z .checkpoint) ≡ own z (moves (m .before) (openS v))
 zone-events v cs al z p m =
     events-permanent (run cs (openS v) .zone z .checkpoint) p
     ∙ ap (λ (l : List Call). eventsAt (run l (openS v) .zone z .checkpoint)) (m .calls)
-    ∙ marked-events v (m .before) (m .call) (m .after) z (subst (λ (l : List Call). Allowed l (openS v)) (m .calls) al)
-    (m .unmarked) (m .marked)
+    ∙ checkpoint-events v (m .before) (m .call) (m .after) z (subst (λ (l : List Call). Allowed l (openS v)) (m .calls) al)
+    (m .none-before) (m .one-after)
 
--- A marked zone was marked by some call.
-Marked : List Call → Site → ℕ → Type 0
-Marked cs s z =
+-- A zone with a checkpoint took it by some call.
+Checkpointed : List Call → Site → ℕ → Type 0
+Checkpointed cs s z =
     (before : List Call) × (c : Call) × (after : List Call) × (cs ≡ before ++ (c ∷ after))
-    × (isMarked (run before s .zone z .checkpoint) ≡ false)
-    × (isMarked (stepS c (run before s) .zone z .checkpoint) ≡ true)
+    × (hasCheckpoint (run before s .zone z .checkpoint) ≡ false)
+    × (hasCheckpoint (stepS c (run before s) .zone z .checkpoint) ≡ true)
 
-when-marked : (cs : List Call) (s : Site) (z : ℕ) → isMarked (s .zone z .checkpoint) ≡ false
-    → isMarked (run cs s .zone z .checkpoint) ≡ true
-    → Marked cs s z
-unfolding Marked
-when-marked [] s z e f = absurd (false≢true (sym e ∙ f))
-when-marked (c ∷ cs) s z e f = go (isMarked (stepS c s .zone z .checkpoint)) refl (λ w. when-marked cs (stepS c s) z w f)
+when-checkpointed : (cs : List Call) (s : Site) (z : ℕ) → hasCheckpoint (s .zone z .checkpoint) ≡ false
+    → hasCheckpoint (run cs s .zone z .checkpoint) ≡ true
+    → Checkpointed cs s z
+unfolding Checkpointed
+when-checkpointed [] s z e f = absurd (false≢true (sym e ∙ f))
+when-checkpointed (c ∷ cs) s z e f = go (hasCheckpoint (stepS c s .zone z .checkpoint)) refl (λ w. when-checkpointed cs (stepS c s) z w f)
   where
-    go : (p : Bool) → isMarked (stepS c s .zone z .checkpoint) ≡ p
-        → (isMarked (stepS c s .zone z .checkpoint) ≡ false → Marked cs (stepS c s) z)
-        → Marked (c ∷ cs) s z
+    go : (p : Bool) → hasCheckpoint (stepS c s .zone z .checkpoint) ≡ p
+        → (hasCheckpoint (stepS c s .zone z .checkpoint) ≡ false → Checkpointed cs (stepS c s) z)
+        → Checkpointed (c ∷ cs) s z
     go true w ih = ([], c, cs, refl, e, w)
     go false w ih = let r = ih w in (c ∷ r .0, r .1, r .2, ap (λ l. c ∷ l) (r .3), r .4, r .5)
 
-pub marked-once : (v : Opening) (cs : List Call) (z : ℕ) → isPermanent (run cs (openS v) .zone z .checkpoint) ≡ true → Marking v cs z
-unfolding Marked
-marked-once v cs z p =
-    let r = when-marked cs (openS v) z refl (permanent-marked (run cs (openS v) .zone z .checkpoint) p) in
-    record { before = r .0; call = r .1; after = r .2; calls = r .3; unmarked = r .4; marked = r .5 }
+pub checkpointed-once : (v : Opening) (cs : List Call) (z : ℕ) → isPermanent (run cs (openS v) .zone z .checkpoint) ≡ true → Checkpointing v cs z
+unfolding Checkpointed
+checkpointed-once v cs z p =
+    let r = when-checkpointed cs (openS v) z refl (permanent-has-checkpoint (run cs (openS v) .zone z .checkpoint) p) in
+    record { before = r .0; call = r .1; after = r .2; calls = r .3; none-before = r .4; one-after = r .5 }
 
 -- The initiator stays: a second start is not allowed.
 initiator-kept : (a : ℕ) → Kept (λ h. h .initiator ≡ some a)
@@ -174,8 +174,8 @@ initiator-starting (start x ∷ cs) h f al a e q =
     record { before = []; after = cs; calls = ap (λ k. start k ∷ cs) i }
 
 -- The start gives the initiator its checkpoint.
-start-marking : (v : Opening) (cs : List Call) → Allowed cs (openS v) → (a : ℕ) (s : Starting cs a) → Marking v cs a
-start-marking v cs al a s =
+start-checkpointing : (v : Opening) (cs : List Call) → Allowed cs (openS v) → (a : ℕ) (s : Starting cs a) → Checkpointing v cs a
+start-checkpointing v cs al a s =
     let (al₀, al₁) = allowed-append (s .before) (start a ∷ s .after) (openH v)
     (subst (λ (l : List Call). Allowed l (openS v)) (s .calls) al) in
     let f = fresh-calls (s .before) (openH v) (fresh-open v) al₀ in
@@ -185,14 +185,14 @@ start-marking v cs al a s =
       call = start a;
       after = s .after;
       calls = s .calls;
-      unmarked = ap (λ (t : Site). isMarked (t .zone a .checkpoint)) (sym (now-run (s .before) (openH v)))
-          ∙ f .unmarked (first-start a h f (al₁ .0)) a;
-      marked = ap (λ (z : Local). isMarked (z .checkpoint))
+      none-before = ap (λ (t : Site). hasCheckpoint (t .zone a .checkpoint)) (sym (now-run (s .before) (openH v)))
+          ∙ f .no-checkpoint (first-start a h f (al₁ .0)) a;
+      one-after = ap (λ (z : Local). hasCheckpoint (z .checkpoint))
           (on-true (eqb a a) started (run (s .before) (openS v) .zone a) (eqb-refl a));
     }
 
 pub initiator-events : (v : Opening) (cs : List Call) → Allowed cs (openS v) → (a : ℕ)
     → isPermanent (run cs (openS v) .zone a .checkpoint) ≡ true
     → (s : Starting cs a) → eventsOf (run cs (openS v) .zone a .checkpoint) ≡ own a (moves (s .before) (openS v))
-unfolding start-marking
-initiator-events v cs al a p s = zone-events v cs al a p (start-marking v cs al a s)
+unfolding start-checkpointing
+initiator-events v cs al a p s = zone-events v cs al a p (start-checkpointing v cs al a s)

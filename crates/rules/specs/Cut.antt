@@ -6,7 +6,7 @@ use mathlib.Core.Option.{some}
 use Prim.Native.Nat.{ℕ, _≤_, _<_}
 use lib.ListN.{drop}
 use Rattle.rules.specs.Opening.{Opening}
-use Rattle.rules.specs.Zone.{isMarked, isPermanent}
+use Rattle.rules.specs.Zone.{hasCheckpoint, isPermanent}
 use Rattle.rules.specs.Site.{Item, message, request, Site, Call, send, receive, start, stepS, openS, waits}
 use Rattle.rules.specs.Park.{Park, Move, hand, take, openPark, replay, own, inside, outside, hands, takes}
 use Rattle.rules.specs.declared.Checkpoint.{Checkpoint}
@@ -56,7 +56,7 @@ carsOn (request set ∷ l) = carsOn l
 abbrev pub present : Site → Park
 present s = record { stock = λ k. s .zone k .stock; channel = λ i j. carsOn (s .channel i j) }
 
--- A recording: which zones are shown firm, and the events, stocks and channels shown.
+-- A recording: which zones are shown permanent ("firm"), and the events, stocks and channels shown.
 pub record Snapshot : Type 0 where
   pub recorded : ℕ → Bool
   pub events : ℕ → ℕ
@@ -95,14 +95,14 @@ shownBy o cs s =
 abbrev pub snapshot : Opening → List Call → Snapshot
 snapshot o cs = shownBy o cs (run cs (openS o))
 
--- Zone z takes its mark by a call: it has none before the call, and one after it.
-pub record Marking (o : Opening) (cs : List Call) (z : ℕ) : Type 0 where
+-- Zone z takes its checkpoint by a call: it has none before the call, and one after it.
+pub record Checkpointing (o : Opening) (cs : List Call) (z : ℕ) : Type 0 where
   pub before : List Call
   pub call : Call
   pub after : List Call
   pub calls : cs ≡ before ++ (call ∷ after)
-  pub unmarked : isMarked (run before (openS o) .zone z .checkpoint) ≡ false
-  pub marked : isMarked (stepS call (run before (openS o)) .zone z .checkpoint) ≡ true
+  pub none-before : hasCheckpoint (run before (openS o) .zone z .checkpoint) ≡ false
+  pub one-after : hasCheckpoint (stepS call (run before (openS o)) .zone z .checkpoint) ≡ true
 
 -- Zone a starts by a call: "The starter is the zone of the accepted start."
 pub record Starting (cs : List Call) (a : ℕ) : Type 0 where
@@ -129,5 +129,5 @@ pub record Cut (o : Opening) (cs : List Call) (r : Snapshot) : Type 1 where
   -- "The events shown for the starter are the number of its own events before the accepted start".
   pub initiator-events : (a : ℕ) (s : Starting cs a) → r .events a ≡ own a (moves (s .before) (openS o))
   -- "those for any other recorded zone the number before its mark".
-  pub marking : (z : ℕ) → r .recorded z ≡ true → Marking o cs z
-  pub zone-events : (z : ℕ) → r .recorded z ≡ true → (m : Marking o cs z) → r .events z ≡ own z (moves (m .before) (openS o))
+  pub checkpointing : (z : ℕ) → r .recorded z ≡ true → Checkpointing o cs z
+  pub zone-events : (z : ℕ) → r .recorded z ≡ true → (m : Checkpointing o cs z) → r .events z ≡ own z (moves (m .before) (openS o))

@@ -7,7 +7,7 @@ use lib.Dec.{eqb}
 use Rattle.rules.specs.Opening.{Opening}
 use Rattle.rules.specs.Change.{on, join}
 use Rattle.rules.specs.Sets.{has, nobody}
-use Rattle.rules.specs.Zone.{isMarked, isPermanent, opened, sent, received, started, requested, asked, carried}
+use Rattle.rules.specs.Zone.{hasCheckpoint, isPermanent, opened, sent, received, started, requested, targets, carried}
 use Rattle.rules.specs.declared.Local.{Local}
 
 -- What a channel carries: messages ("hand-overs"), with cars and the flag ("marked bit"), and requests, with a set of zones.
@@ -24,7 +24,7 @@ pub record Site : Type 0 where
 abbrev pub sendS : ℕ → ℕ → ℕ → Site → Site
 sendS a b cars s = record {
   zone = λ k. on (eqb k a) (sent cars) (s .zone k);
-  channel = λ i j. on (eqb i a && eqb j b) (join (message cars (isMarked (s .zone a .checkpoint)))) (s .channel i j);
+  channel = λ i j. on (eqb i a && eqb j b) (join (message cars (hasCheckpoint (s .zone a .checkpoint)))) (s .channel i j);
 }
 
 -- The first item of the channel from a to b leaves it.
@@ -32,8 +32,8 @@ abbrev pub popS : ℕ → ℕ → Site → Site
 popS a b s = record { zone = s .zone; channel = λ i j. on (eqb i a && eqb j b) tail (s .channel i j) }
 
 -- Zone b changes and puts a request, carrying a set, on its channel to each zone of another set.
-abbrev pub askS : ℕ → (Local → Local) → ℕ → ℕ → Site → Site
-askS b change to set s = record {
+abbrev pub requestAllS : ℕ → (Local → Local) → ℕ → ℕ → Site → Site
+requestAllS b change to set s = record {
   zone = λ k. on (eqb k b) change (s .zone k);
   channel = λ i j. on (eqb i b && has to j) (join (request set)) (s .channel i j);
 }
@@ -45,9 +45,9 @@ receiveS a b cars flag s = record {
   channel = λ i j. on (eqb i a && eqb j b) tail (s .channel i j);
 }
 
--- What a request with a set does to zone b, which is not firm.
+-- What a request with a set does to zone b, whose checkpoint is not permanent.
 abbrev pub turnS : ℕ → ℕ → Site → Site
-turnS b set s = askS b requested (asked b set (s .zone b)) (carried set (s .zone b)) s
+turnS b set s = requestAllS b requested (targets b set (s .zone b)) (carried set (s .zone b)) s
 
 -- Receipt by b of the request that stands first on the channel from a: "a firm zone drops it".
 abbrev pub requestS : ℕ → ℕ → ℕ → Site → Site
@@ -55,7 +55,7 @@ requestS a b set s = on (not (isPermanent (s .zone b .checkpoint))) (turnS b set
 
 -- Start by a: a request, "carrying its heard set, on its line to each other zone of that set".
 abbrev pub startS : ℕ → Site → Site
-startS a s = askS a started (asked a nobody (s .zone a)) (carried nobody (s .zone a)) s
+startS a s = requestAllS a started (targets a nobody (s .zone a)) (carried nobody (s .zone a)) s
 
 -- A receipt takes the first item of the channel.
 abbrev pub takeS : ℕ → ℕ → List Item → Site → Site

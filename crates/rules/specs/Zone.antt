@@ -9,10 +9,10 @@ use Rattle.rules.specs.declared.Checkpoint.{Checkpoint}
 use Rattle.rules.specs.declared.Checkpoint.the-variants.{None, Mutable, Permanent}
 
 -- Has the zone a checkpoint of either kind ("either mark")?
-abbrev pub isMarked : Checkpoint → Bool
-isMarked None = false
-isMarked (Mutable s) = true
-isMarked (Permanent s) = true
+abbrev pub hasCheckpoint : Checkpoint → Bool
+hasCheckpoint None = false
+hasCheckpoint (Mutable s) = true
+hasCheckpoint (Permanent s) = true
 
 -- Is the checkpoint permanent ("firm")?
 abbrev pub isPermanent : Checkpoint → Bool
@@ -68,7 +68,7 @@ received from cars flag z = record {
 
 -- The zone with another checkpoint.
 abbrev pub withCheckpoint : Checkpoint → Local → Local
-withCheckpoint mark z = record { stock = z .stock; deps = z .deps; events = z .events; checkpoint = mark }
+withCheckpoint checkpoint z = record { stock = z .stock; deps = z .deps; events = z .events; checkpoint = checkpoint }
 
 -- Start: "the zone takes a firm mark".
 abbrev pub started : Local → Local
@@ -84,9 +84,9 @@ abbrev pub requested : Local → Local
 requested z = withCheckpoint (madePermanent (z .checkpoint) (saved z)) z
 
 -- "In these two cases the zone sends a request to every zone of its heard set, other than itself, that is not in the received set".
--- A start asks as a zone that received the set of nobody: "each other zone of that set".
-abbrev pub asked : ℕ → ℕ → Local → ℕ
-asked me set z = difference (z .deps) (union set (only me))
+-- A start has the targets of a zone that received the set of nobody: "each other zone of that set".
+abbrev pub targets : ℕ → ℕ → Local → ℕ
+targets me set z = difference (z .deps) (union set (only me))
 
 -- "each carries the union of both sets".
 abbrev pub carried : ℕ → Local → ℕ

@@ -11,16 +11,16 @@ use borrow.Author.Tests.{lt-ltb, le-leb, ne-eqb}
 use Rattle.rules.specs.Limits.{mostRecords, places}
 use Rattle.rules.specs.Questions.{index, isOn}
 use Rattle.rules.specs.Sets.{has, nobody}
-use Rattle.rules.specs.Zone.{isPermanent, asked}
+use Rattle.rules.specs.Zone.{isPermanent, targets}
 use Rattle.rules.specs.Site.{Item, message, request}
 use Rattle.rules.specs.declared.Local.{Local}
 use Rattle.rules.proofs.SetLaws.{has-nobody}
-use Rattle.local.specs.Asked.{requestedBy, startedBy}
+use Rattle.local.specs.Requesting.{requestedBy, startedBy}
 use Rattle.channel.specs.Words.{itemOf}
-use Rattle.channel.specs.Channels.{place, lenOf, isFree, firstOf, freeBelow, allFree}
+use Rattle.channel.specs.Channels.{channelIndex, lenOf, isFree, firstOf, freeBelow, allFree}
 use Rattle.channel.proofs.View.{items-length}
 use Rattle.run.specs.State.{zoneAt, isSound, hasStarted, countOf}
-use Rattle.run.specs.Calls.{refused, isPair, taken, granted, questions}
+use Rattle.run.specs.Calls.{refused, isPair, itemReceived, granted, questions}
 use Rattle.run.specs.Model.{siteOf}
 use Rattle.run.specs.Lists.{isAccepted}
 use Rattle.run.specs.Claims.{WholeRun}
@@ -29,7 +29,7 @@ use Rattle.run.specs.declared.Answer.{Answer}
 use Rattle.run.proofs.Outcome.{answer-is, Pair, pair, zone-sited}
 use Rattle.run.proofs.BelowLaws.{any-of-none}
 use Rattle.run.proofs.Parts.{on-site, zone-on, channel-on, SoundRun, parts}
-use Rattle.run.proofs.SetBounds.{has-lt, asked-deps, asked-other}
+use Rattle.run.proofs.SetBounds.{has-lt, targets-deps, targets-other}
 use Rattle.run.specs.declared.SiteCall.{SiteCall}
 use Rattle.run.specs.declared.SiteCall.the-variants.{Receive, Send, Start}
 use Rattle.rules.proofs.AskLaws.{AllYes, ask-yes}
@@ -46,20 +46,20 @@ not-of e = rw e
 
 module _ (r : Run) (w : WholeRun r) (s : SoundRun r) where
   -- The length of a channel of the site.
-  len-is : (a b : ℕ) → Pair (countOf (r .head)) a b → length (siteOf r .channel a b) ≡ lenOf (r .channels) (place a b)
+  len-is : (a b : ℕ) → Pair (countOf (r .head)) a b → length (siteOf r .channel a b) ≡ lenOf (r .channels) (channelIndex a b)
   len-is a b p =
       let o = on-site (countOf (r .head)) a b (s .most) (p .from) (p .to) (p .apart) in
       ap length (channel-on r a b o)
-      ∙ items-length (r .channels) (place a b) (w .channels) (omega (arith, p .from, p .to, s .most)) (s .lens a b o)
+      ∙ items-length (r .channels) (channelIndex a b) (w .channels) (omega (arith, p .from, p .to, s .most)) (s .lens a b o)
 
   -- A set of zones of the site, other than b, to each of which the channel has a free place.
   module _ (b to : ℕ) (h : b < countOf (r .head)) (d : (j : ℕ) → has to j ≡ true → (j < countOf (r .head)) × (j ≢ b))
       (room : (j : ℕ) → length (siteOf r .channel b j) < places) where
-    one-free : (j : ℕ) (t : Bool) → has to j ≡ t → not t || isFree (r .channels) (place b j) ≡ true
+    one-free : (j : ℕ) (t : Bool) → has to j ≡ t → not t || isFree (r .channels) (channelIndex b j) ≡ true
     one-free j true e =
         let (m, n) = d j e in
         let q = len-is b j (record { from = h; to = m; apart = λ x. n (sym x) }) in
-        lt-ltb (lenOf (r .channels) (place b j)) places (omega (arith, room j))
+        lt-ltb (lenOf (r .channels) (channelIndex b j)) places (omega (arith, room j))
     one-free j false e = refl
 
     free-to : (n : ℕ) → freeBelow n (r .channels) b to ≡ true
@@ -70,21 +70,21 @@ module _ (r : Run) (w : WholeRun r) (s : SoundRun r) where
     unfolding allFree
     all-free = free-to 8
 
-  asked-sited : (b set : ℕ) (z : Local) → z .deps < 2 ^ countOf (r .head) → (j : ℕ) → has (asked b set z) j ≡ true → (j < countOf (r .head)) × (j ≢ b)
-  asked-sited b set z e j g = (has-lt (z .deps) (countOf (r .head)) j e (asked-deps b set z j g), asked-other b set z j g)
+  targets-sited : (b set : ℕ) (z : Local) → z .deps < 2 ^ countOf (r .head) → (j : ℕ) → has (targets b set z) j ≡ true → (j < countOf (r .head)) × (j ≢ b)
+  targets-sited b set z e j g = (has-lt (z .deps) (countOf (r .head)) j e (targets-deps b set z j g), targets-other b set z j g)
 
   nobody-sited : (b j : ℕ) → has nobody j ≡ true → (j < countOf (r .head)) × (j ≢ b)
   nobody-sited b j g = absurd (true≢false (sym g ∙ has-nobody j))
 
-  taken-sited : (a b : ℕ) (x : Item) (z : Local) → z .deps < 2 ^ countOf (r .head) → (j : ℕ) → has (taken a b x z .to) j ≡ true
+  received-sited : (a b : ℕ) (x : Item) (z : Local) → z .deps < 2 ^ countOf (r .head) → (j : ℕ) → has (itemReceived a b x z .to) j ≡ true
       → (j < countOf (r .head)) × (j ≢ b)
   unfolding requestedBy
-  taken-sited a b (message cars flag) z e j g = nobody-sited b j g
-  taken-sited a b (request set) z e j g = go (isPermanent (z .checkpoint)) refl
+  received-sited a b (message cars flag) z e j g = nobody-sited b j g
+  received-sited a b (request set) z e j g = go (isPermanent (z .checkpoint)) refl
     where
       go : (p : Bool) → isPermanent (z .checkpoint) ≡ p → (j < countOf (r .head)) × (j ≢ b)
       go true q = nobody-sited b j (rw q at g)
-      go false q = asked-sited b set z e j (rw q at g)
+      go false q = targets-sited b set z e j (rw q at g)
 
   deps-at : (k : ℕ) → k < countOf (r .head) → zoneAt (r .head) k .deps < 2 ^ countOf (r .head)
   deps-at k h = subst (λ (z : Local). z .deps < 2 ^ countOf (r .head)) (zone-on r k h) (s .deps k h)
@@ -99,7 +99,7 @@ send-accepted r from to cars w e p h c f =
     let l = len-is r w s (index from) (index to) q in
     let v = subst (λ (z : Local). cars ≤ z .stock) (zone-on r (index from) (q .from)) c in
     accepted-if (Send from to cars) r
-    (e, (p, (lt-ltb _ _ h, (le-leb _ _ v, (lt-ltb (lenOf (r .channels) (place (index from) (index to))) places (omega arith), tt)))))
+    (e, (p, (lt-ltb _ _ h, (le-leb _ _ v, (lt-ltb (lenOf (r .channels) (channelIndex (index from) (index to))) places (omega arith), tt)))))
 
 -- A receipt from a channel that is not empty, where no channel from the receiver is full.
 pub receive-accepted : (r : Run) (from to : ℕ) → WholeRun r → isSound r ≡ true → isPair (countOf (r .head)) from to ≡ true
@@ -111,7 +111,7 @@ receive-accepted r from to w e p h n f =
     let a = index from in
     let b = index to in
     let l = len-is r w s a b q in
-    let x = itemOf (firstOf (r .channels) (place a b)) in
+    let x = itemOf (firstOf (r .channels) (channelIndex a b)) in
     let z = zoneAt (r .head) b in
     accepted-if (Receive from to) r (
       e,
@@ -120,8 +120,8 @@ receive-accepted r from to w e p h n f =
         (
           lt-ltb _ _ h,
           (
-            not-of (ne-eqb (lenOf (r .channels) (place a b)) 0 (λ g. n (no-items _ (l ∙ g)))),
-            (all-free r w s b (taken a b x z .to) (q .to) (taken-sited r w s a b x z (deps-at r w s b (q .to))) f, tt),
+            not-of (ne-eqb (lenOf (r .channels) (channelIndex a b)) 0 (λ g. n (no-items _ (l ∙ g)))),
+            (all-free r w s b (itemReceived a b x z .to) (q .to) (received-sited r w s a b x z (deps-at r w s b (q .to))) f, tt),
           ),
         ),
       ),
@@ -146,7 +146,7 @@ start-accepted r zone w e p h n f =
           (
             not-of (any-of-none (countOf (r .head)) (λ i. isPermanent (zoneAt (r .head) i .checkpoint))
                 (λ i c. subst (λ (z : Local). isPermanent (z .checkpoint) ≡ false) (zone-on r i c) (n i))),
-            (all-free r w s a (asked a nobody z) b (asked-sited r w s a nobody z (deps-at r w s a b)) f, tt),
+            (all-free r w s a (targets a nobody z) b (targets-sited r w s a nobody z (deps-at r w s a b)) f, tt),
           ),
         ),
       ),

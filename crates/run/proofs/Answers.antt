@@ -5,7 +5,7 @@ use mathlib.Core.Logic.{_≢_}
 use mathlib.Core.List.{List, [], _∷_}
 use Prim.Native.Nat.{ℕ}
 use Rattle.rules.specs.Questions.{Question, question, ask, refusal, index, Among}
-use Rattle.channel.specs.Channels.{place, lenOf}
+use Rattle.channel.specs.Channels.{channelIndex, lenOf}
 use Rattle.run.specs.State.{zoneAt, isSound, hasStarted, countOf}
 use Rattle.run.specs.Calls.{refused, answer, granted, questions, actorIn}
 use Rattle.run.specs.Claims.{sendQuestions, sendRefusal, answers}
@@ -34,12 +34,12 @@ refusal-is c r = ap (λ (x : Answer). x .refusal) (answer-is c r) ∙ ask-refusa
 -- channel's length.
 pub send-answer : (r : Run) (from to cars : ℕ) → isSound r ≡ true
     → answer (Send from to cars) r .refusal
-    ≡ sendRefusal (countOf (r .head)) (r .head .records) (zoneAt (r .head) (index from) .stock) (lenOf (r .channels) (place (index from) (index to)))
+    ≡ sendRefusal (countOf (r .head)) (r .head .records) (zoneAt (r .head) (index from) .stock) (lenOf (r .channels) (channelIndex (index from) (index to)))
     from to cars
 unfolding answer
 send-answer r from to cars e =
     let stock = zoneAt (r .head) (index from) .stock in
-    let len = lenOf (r .channels) (place (index from) (index to)) in
+    let len = lenOf (r .channels) (channelIndex (index from) (index to)) in
     ask-refusal (question 1 (isSound r) ∷ sendQuestions (countOf (r .head)) (r .head .records) stock len from to cars) r (granted (Send from to cars) r)
     refl
     ∙ rw e

@@ -9,13 +9,13 @@ use lib.Dec.{eqb}
 use borrow.Author.Tests.{ne-eqb}
 use Rattle.rules.specs.Change.{on, join}
 use Rattle.rules.specs.Sets.{has}
-use Rattle.rules.specs.Zone.{isPermanent, requested, started, asked, carried}
-use Rattle.rules.specs.Site.{Item, message, request, Site, Call, send, receive, start, popS, askS, turnS, stepS, takeS}
+use Rattle.rules.specs.Zone.{isPermanent, requested, started, targets, carried}
+use Rattle.rules.specs.Site.{Item, message, request, Site, Call, send, receive, start, popS, requestAllS, turnS, stepS, takeS}
 use Rattle.rules.specs.Cut.{May}
 use Rattle.rules.specs.declared.Local.{Local}
 use Rattle.rules.proofs.Guarded.{on-same, on-same-at}
 use Rattle.rules.proofs.Tests.{both-true, eqb-refl}
-use Rattle.channel.specs.Channels.{place}
+use Rattle.channel.specs.Channels.{channelIndex}
 use Rattle.channel.specs.Words.{carsIn}
 use Rattle.rules.specs.Below.{sum}
 use Rattle.run.specs.State.{carsOf, countOf}
@@ -51,11 +51,11 @@ channel-sum a b s t ha hb e =
     let x : (a * 8 + b) / 8 ≡ a = omega arith in
     let y : (a * 8 + b) % 8 ≡ b = omega arith in
     subst (λ (i : ℕ). carsS t + carsOf (s .channel i b) ≡ carsS s + carsOf (t .channel i b)) x
-    (subst (λ (j : ℕ). carsS t + carsOf (s .channel (place a b / 8) j) ≡ carsS s + carsOf (t .channel (place a b / 8) j)) y
-    (sum-changed 64 (λ k. carsOf (s .channel (k / 8) (k % 8))) (λ k. carsOf (t .channel (k / 8) (k % 8))) (place a b) (omega arith)
+    (subst (λ (j : ℕ). carsS t + carsOf (s .channel (channelIndex a b / 8) j) ≡ carsS s + carsOf (t .channel (channelIndex a b / 8) j)) y
+    (sum-changed 64 (λ k. carsOf (s .channel (k / 8) (k % 8))) (λ k. carsOf (t .channel (k / 8) (k % 8))) (channelIndex a b) (omega arith)
     (λ k h d. e (k / 8) (k % 8) (other k d))))
   where
-    other : (k : ℕ) → k ≢ place a b → eqb (k / 8) a && eqb (k % 8) b ≡ false
+    other : (k : ℕ) → k ≢ channelIndex a b → eqb (k / 8) a && eqb (k % 8) b ≡ false
     other k d = go (eqb (k / 8) a && eqb (k % 8) b) refl
       where
         go : (p : Bool) → eqb (k / 8) a && eqb (k % 8) b ≡ p → p ≡ false
@@ -76,9 +76,9 @@ abbrev total : ℕ → Site → ℕ
 total n s = stocksS n s + carsS s
 
 -- Requests carry no cars.
-ask-keeps : (n b to set : ℕ) (g : Local → Local) (s : Site) → ((z : Local) → g z .stock ≡ z .stock)
-    → total n (askS b g to set s) ≡ total n s
-ask-keeps n b to set g s e = ap₂ _+_ (stocks-same n s (askS b g to set s) zone) (cars-same s (askS b g to set s) channel)
+requests-keep : (n b to set : ℕ) (g : Local → Local) (s : Site) → ((z : Local) → g z .stock ≡ z .stock)
+    → total n (requestAllS b g to set s) ≡ total n s
+requests-keep n b to set g s e = ap₂ _+_ (stocks-same n s (requestAllS b g to set s) zone) (cars-same s (requestAllS b g to set s) channel)
   where
     zone : (k : ℕ) → on (eqb k b) g (s .zone k) .stock ≡ s .zone k .stock
     zone k = on-same (λ (z : Local). z .stock) (eqb k b) g (s .zone k) (e (s .zone k))
@@ -119,13 +119,13 @@ module _ (n : ℕ) (most : n ≤ 8) (a b : ℕ) (p : Pair n a b) (s : Site) wher
       omega arith
   take-keeps (request set ∷ rest) e =
       on-same (total n) (not (isPermanent (s .zone b .checkpoint))) (turnS b set) (popS a b s)
-      (ask-keeps n b (asked b set (s .zone b)) (carried set (s .zone b)) requested (popS a b s) (λ z. refl))
+      (requests-keep n b (targets b set (s .zone b)) (carried set (s .zone b)) requested (popS a b s) (λ z. refl))
       ∙ pop-keeps n a b set rest s e
 
 pub step-keeps : (n : ℕ) (c : Call) (s : Site) → n ≤ 8 → Sited n c → May c s → total n (stepS c s) ≡ total n s
 step-keeps n (send a b cars) s most p m = send-keeps n most a b p s cars m
 step-keeps n (receive a b) s most p m = take-keeps n most a b p s (s .channel a b) refl
-step-keeps n (start a) s most p m = ask-keeps n a _ _ started s (λ z. refl)
+step-keeps n (start a) s most p m = requests-keep n a _ _ started s (λ z. refl)
 
 -- The cars of a run are those of its site.
 pub cars-at : (r : Run) → allCars r ≡ stocksS (countOf (r .head)) (siteOf r) + carsS (siteOf r)

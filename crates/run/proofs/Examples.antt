@@ -6,10 +6,10 @@ use lib.ListN.{replicate}
 use Rattle.rules.specs.Questions.{isCount, isOn}
 use Rattle.rules.specs.Sets.{has, members}
 use Rattle.rules.specs.Site.{message, request, send, receive, start}
-use Rattle.local.specs.Asked.{requestedBy, startedBy}
+use Rattle.local.specs.Requesting.{requestedBy, startedBy}
 use Rattle.channel.specs.Words.{itemOf, messageWord}
 use Rattle.channel.specs.Channels.{pushed, movedDown, popped, allFree, requestedAll, isChannel}
-use Rattle.run.specs.State.{zoneSound, zonesSound, channelSound, channelsSound, stocks, carsOnChannels, partsSound, hasStarted}
+use Rattle.run.specs.State.{localSound, localsSound, channelSound, channelsSound, stocks, carsOnChannels, partsSound, hasStarted}
 use Rattle.run.specs.Calls.{isPair, answer}
 use Rattle.run.specs.Model.{siteOf}
 use Rattle.run.specs.Lists.{after, acceptedCalls}
@@ -40,13 +40,13 @@ two = Send 1 2 5 ∷ Send 1 2 4 ∷ Receive 1 2 ∷ []
 abbrev First : Type 0
 First = (siteOf (after two three) .channel 0 1 ≡ message 4 false ∷ []) × (siteOf (after two three) .zone 1 .stock ≡ 25)
 
--- Zone 1 depends on zone 2, and zone 3 on zone 1; zone 3 starts and asks zone 1, which asks zone 2, carrying all three.
-abbrev asking : List SiteCall
-asking = Send 2 1 0 ∷ Receive 2 1 ∷ Send 1 3 0 ∷ Receive 1 3 ∷ Start 3 ∷ Receive 3 1 ∷ []
+-- Zone 1 depends on zone 2, and zone 3 on zone 1; zone 3 starts and sends zone 1 a request, which sends zone 2 one, carrying all three.
+abbrev passedOn : List SiteCall
+passedOn = Send 2 1 0 ∷ Receive 2 1 ∷ Send 1 3 0 ∷ Receive 1 3 ∷ Start 3 ∷ Receive 3 1 ∷ []
 
 abbrev Sent : Type 0
-Sent = (siteOf (after asking three) .channel 0 1 ≡ request 7 ∷ []) × (siteOf (after asking three) .channel 2 0 ≡ [])
-    × (acceptedCalls asking three ≡ send 1 0 0 ∷ receive 1 0 ∷ send 0 2 0 ∷ receive 0 2 ∷ start 2 ∷ receive 2 0 ∷ [])
+Sent = (siteOf (after passedOn three) .channel 0 1 ≡ request 7 ∷ []) × (siteOf (after passedOn three) .channel 2 0 ≡ [])
+    × (acceptedCalls passedOn three ≡ send 1 0 0 ∷ receive 1 0 ∷ send 0 2 0 ∷ receive 0 2 ∷ start 2 ∷ receive 2 0 ∷ [])
 
 -- With the channel from zone 1 to zone 2 full, the request to zone 1 is refused with 10 and stays where it is.
 abbrev full : List SiteCall
@@ -65,5 +65,5 @@ Numbers = (openCall (openingAs (termsAs 9) []) .refusal ≡ 2) × (openCall (ope
     × (answer (Start 1) (after full three) .refusal ≡ 11)
 
 pub computed : Flag × First × Sent × Refused × Numbers
-unfolding isCount isOn has members requestedBy startedBy itemOf messageWord pushed movedDown popped allFree requestedAll isChannel zoneSound zonesSound channelSound channelsSound stocks carsOnChannels partsSound hasStarted openedRun isPair openCall answer
+unfolding isCount isOn has members requestedBy startedBy itemOf messageWord pushed movedDown popped allFree requestedAll isChannel localSound localsSound channelSound channelsSound stocks carsOnChannels partsSound hasStarted openedRun isPair openCall answer
 computed = ((refl, refl, refl, refl, refl), (refl, refl), (refl, refl, refl), (refl, refl), (refl, refl, refl, refl, refl, refl, refl, refl))

@@ -16,11 +16,11 @@ use Rattle.rules.specs.Sets.{within}
 use Rattle.rules.proofs.QuestionLaws.{count-low, count-high}
 use Rattle.rules.proofs.Tests.{and-left, and-right}
 use Rattle.channel.specs.Words.{itemOf, carsIn, setIn}
-use Rattle.channel.specs.Channels.{place, lenOf, wordsOn, itemsOn, firstOf, isChannel}
+use Rattle.channel.specs.Channels.{channelIndex, lenOf, wordsOn, itemsOn, firstOf, isChannel}
 use Rattle.channel.specs.declared.Channels.{Channels}
 use Rattle.rules.specs.Below.{sumBelow}
 use Rattle.run.proofs.BelowLaws.{all-at}
-use Rattle.run.specs.State.{zoneAt, zoneSound, zonesSound, setsWithin, channelSound, channelsSound, carsOf, stocks, carsOnChannels, partsSound, countOf, termsOf}
+use Rattle.run.specs.State.{zoneAt, localSound, localsSound, setsWithin, channelSound, channelsSound, carsOf, stocks, carsOnChannels, partsSound, countOf, termsOf}
 use Rattle.run.specs.declared.Head.{Head}
 
 -- A sum over the numbers below n, at one number.
@@ -31,18 +31,18 @@ sum-at (suc n) f i h =
     (eq-or-lt-of-le (le-of-suc-le-suc h))
 
 -- The channel of two zones, by their indices.
-pub channel-is : (count a b : ℕ) → b < 8 → isChannel count (place a b) ≡ ltb a count && ltb b count && not (eqb a b)
+pub channel-is : (count a b : ℕ) → b < 8 → isChannel count (channelIndex a b) ≡ ltb a count && ltb b count && not (eqb a b)
 unfolding isChannel
 channel-is count a b h =
     let d : (a * 8 + b) / 8 ≡ a = omega arith in
     let m : (a * 8 + b) % 8 ≡ b = omega arith in
     rw (d, m)
 
-pub channel-at : (count a b : ℕ) → count ≤ 8 → a < count → b < count → a ≢ b → isChannel count (place a b) ≡ true
+pub channel-at : (count a b : ℕ) → count ≤ 8 → a < count → b < count → a ≢ b → isChannel count (channelIndex a b) ≡ true
 channel-at count a b c ha hb ne = rw (channel-is count a b (omega arith), lt-ltb a count ha, lt-ltb b count hb, ne-eqb a b ne)
 
-pub place-lt : (count a b : ℕ) → count ≤ 8 → a < count → b < count → place a b < 64
-place-lt count a b c ha hb = omega arith
+pub channel-index-lt : (count a b : ℕ) → count ≤ 8 → a < count → b < count → channelIndex a b < 64
+channel-index-lt count a b c ha hb = omega arith
 
 -- The first of some words.
 first-cars : (ws : List ℕ) → carsIn (itemOf (getD ws 0 0)) ≤ carsOf (map itemOf ws)
@@ -81,12 +81,12 @@ module _ (h : Head) (l : Channels) (sound : partsSound h l ≡ true) where
   abbrev records : ℕ
   records = h .records
 
-  front : isCount count && leb records 1000 && zonesSound h && channelsSound (termsOf h) l ≡ true
+  front : isCount count && leb records 1000 && localsSound h && channelsSound (termsOf h) l ≡ true
   unfolding partsSound
-  front = and-left (isCount count && leb records 1000 && zonesSound h && channelsSound (termsOf h) l) _ sound
+  front = and-left (isCount count && leb records 1000 && localsSound h && channelsSound (termsOf h) l) _ sound
 
-  three : isCount count && leb records 1000 && zonesSound h ≡ true
-  three = and-left (isCount count && leb records 1000 && zonesSound h) _ front
+  three : isCount count && leb records 1000 && localsSound h ≡ true
+  three = and-left (isCount count && leb records 1000 && localsSound h) _ front
 
   two : isCount count && leb records 1000 ≡ true
   two = and-left (isCount count && leb records 1000) _ three
@@ -103,17 +103,17 @@ module _ (h : Head) (l : Channels) (sound : partsSound h l ≡ true) where
   pub sound-records : records ≤ 1000
   sound-records = leb-true records 1000 (and-right (isCount count) (leb records 1000) two)
 
-  sound-zone : (i : ℕ) → i < count → zoneSound count records (zoneAt h i) ≡ true
-  unfolding zonesSound
+  sound-zone : (i : ℕ) → i < count → localSound count records (zoneAt h i) ≡ true
+  unfolding localsSound
   sound-zone i b =
-      all-at count (λ i. zoneSound count records (zoneAt h i)) (and-right (isCount count && leb records 1000) (zonesSound h) three) i b
+      all-at count (λ i. localSound count records (zoneAt h i)) (and-right (isCount count && leb records 1000) (localsSound h) three) i b
 
   pub sound-events : (i : ℕ) → i < count → zoneAt h i .events ≤ records
-  unfolding zoneSound
+  unfolding localSound
   sound-events i b = leb-true (zoneAt h i .events) records (and-left (leb (zoneAt h i .events) records) _ (sound-zone i b))
 
   pub sound-deps : (i : ℕ) → i < count → zoneAt h i .deps < 2 ^ count
-  unfolding zoneSound
+  unfolding localSound
   sound-deps i b =
       ltb-true (zoneAt h i .deps) (2 ^ count) (and-right (leb (zoneAt h i .events) records) (within (zoneAt h i .deps) count) (sound-zone i b))
 
@@ -121,7 +121,7 @@ module _ (h : Head) (l : Channels) (sound : partsSound h l ≡ true) where
   unfolding channelsSound
   sound-channel k b e =
       let q : not (isChannel count k) || channelSound (termsOf h) l k ≡ true = all-at 64 (λ k. not (isChannel count k) || channelSound (termsOf h) l k)
-      (and-right (isCount count && leb records 1000 && zonesSound h) (channelsSound (termsOf h) l) front) k b in
+      (and-right (isCount count && leb records 1000 && localsSound h) (channelsSound (termsOf h) l) front) k b in
       rw e at q
 
   pub sound-length : (k : ℕ) → k < 64 → isChannel count k ≡ true → lenOf l k ≤ 16
@@ -141,7 +141,7 @@ module _ (h : Head) (l : Channels) (sound : partsSound h l ≡ true) where
   unfolding partsSound
   sound-total =
       leb-true (stocks h + carsOnChannels count l) 65535
-      (and-right (isCount count && leb records 1000 && zonesSound h && channelsSound (termsOf h) l) _ sound)
+      (and-right (isCount count && leb records 1000 && localsSound h && channelsSound (termsOf h) l) _ sound)
 
   -- A zone has room for what stands first on a channel: the sum of question 1 has both.
   pub sound-room : (i k : ℕ) → i < count → k < 64 → isChannel count k ≡ true → 0 < lenOf l k

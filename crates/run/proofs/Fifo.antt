@@ -8,8 +8,8 @@ use lib.Dec.{eqb}
 use Rattle.rules.specs.Change.{on, join}
 use Rattle.rules.specs.Questions.{index}
 use Rattle.rules.specs.Sets.{has}
-use Rattle.rules.specs.Zone.{isMarked, isPermanent, requested, started, asked, carried}
-use Rattle.rules.specs.Site.{Item, message, request, Site, popS, askS, turnS, takeS, stepS}
+use Rattle.rules.specs.Zone.{hasCheckpoint, isPermanent, requested, started, targets, carried}
+use Rattle.rules.specs.Site.{Item, message, request, Site, popS, requestAllS, turnS, takeS, stepS}
 use Rattle.rules.specs.Cut.{May}
 use Rattle.rules.specs.declared.Local.{Local}
 use Rattle.rules.proofs.Guarded.{on-same}
@@ -38,9 +38,9 @@ messages-first (message cars flag ∷ xs) = refl
 messages-first (request set ∷ xs) = refl
 
 -- Requests are no messages.
-ask-messages : (b to set : ℕ) (g : Local → Local) (s : Site) (i j : ℕ)
-    → messages (askS b g to set s .channel i j) ≡ messages (s .channel i j)
-ask-messages b to set g s i j =
+requests-messages : (b to set : ℕ) (g : Local → Local) (s : Site) (i j : ℕ)
+    → messages (requestAllS b g to set s .channel i j) ≡ messages (s .channel i j)
+requests-messages b to set g s i j =
     on-same messages (eqb i b && has to j) (join (request set)) (s .channel i j)
     (messages-join (request set) (s .channel i j) ∙ append-nil (messages (s .channel i j)))
 
@@ -59,7 +59,7 @@ take-messages a b s i j [] n = absurd (n refl)
 take-messages a b s i j (message cars flag ∷ xs) n = refl
 take-messages a b s i j (request set ∷ xs) n =
     on-same (λ (t : Site). messages (t .channel i j)) (not (isPermanent (s .zone b .checkpoint))) (turnS b set) (popS a b s)
-    (ask-messages b (asked b set (s .zone b)) (carried set (s .zone b)) requested (popS a b s) i j)
+    (requests-messages b (targets b set (s .zone b)) (carried set (s .zone b)) requested (popS a b s) i j)
 
 -- One call: what was on the channel and what it puts there are what it takes off and what is left.
 step-messages : (c : SiteCall) (r : Run) (i j : ℕ) → May (callOf c) (siteOf r)
@@ -70,11 +70,11 @@ step-messages (Send from to cars) r i j m = go (eqb i (index from) && eqb j (ind
     a = index from
 
     go : (t : Bool) → eqb i a && eqb j (index to) ≡ t
-        → messages (siteOf r .channel i j) ++ cond t (message cars (isMarked (siteOf r .zone i .checkpoint)) ∷ []) []
-        ≡ messages (on t (join (message cars (isMarked (siteOf r .zone a .checkpoint)))) (siteOf r .channel i j))
+        → messages (siteOf r .channel i j) ++ cond t (message cars (hasCheckpoint (siteOf r .zone i .checkpoint)) ∷ []) []
+        ≡ messages (on t (join (message cars (hasCheckpoint (siteOf r .zone a .checkpoint)))) (siteOf r .channel i j))
     go true e =
         let (x, y) = both-true i a j (index to) e in
-        ap (λ (k : ℕ). messages (siteOf r .channel i j) ++ (message cars (isMarked (siteOf r .zone k .checkpoint)) ∷ [])) x
+        ap (λ (k : ℕ). messages (siteOf r .channel i j) ++ (message cars (hasCheckpoint (siteOf r .zone k .checkpoint)) ∷ [])) x
         ∙ sym (messages-join _ (siteOf r .channel i j))
     go false e = append-nil (messages (siteOf r .channel i j))
 step-messages (Receive from to) r i j m =
@@ -83,7 +83,7 @@ step-messages (Receive from to) r i j m =
     append-nil (messages (siteOf r .channel i j)) ∙ pop-messages a b (siteOf r) i j
     ∙ ap (λ (l : List Item). takesOff i j (Receive from to) r ++ l) (sym (take-messages a b (siteOf r) i j (siteOf r .channel a b) m))
 step-messages (Start zone) r i j m =
-    append-nil (messages (siteOf r .channel i j)) ∙ sym (ask-messages (index zone) _ _ started (siteOf r) i j)
+    append-nil (messages (siteOf r .channel i j)) ∙ sym (requests-messages (index zone) _ _ started (siteOf r) i j)
 
 -- Any run, any list of calls.
 pub fifo-from : (i j : ℕ) (cs : List SiteCall) (r : Run) → WholeRun r → AllTyped cs

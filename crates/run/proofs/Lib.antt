@@ -2,7 +2,7 @@ pub mod Outcome
 pub mod Answers
 pub mod Whole
 pub mod BelowLaws
-pub mod PlaceLaws
+pub mod IndexLaws
 pub mod Parts
 pub mod SetBounds
 pub mod Refine

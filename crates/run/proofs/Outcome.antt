@@ -12,14 +12,14 @@ use Rattle.rules.specs.Limits.{mostCars, mostRecords, places}
 use Rattle.rules.specs.Questions.{ask, index, isCount, isOn, Among}
 use Rattle.rules.specs.Site.{Call, send, receive, start}
 use Rattle.rules.proofs.Tests.{and-left, and-right}
-use Rattle.local.specs.Asked.{startedBy}
-use Rattle.local.specs.declared.Asked.{Asked}
-use Rattle.channel.specs.Channels.{place, lenOf, allFree}
+use Rattle.local.specs.Requesting.{startedBy}
+use Rattle.local.specs.declared.Requesting.{Requesting}
+use Rattle.channel.specs.Channels.{channelIndex, lenOf, allFree}
 use Rattle.channel.specs.declared.Channels.{Channels}
 use Rattle.rules.specs.declared.Local.{Local}
 use Rattle.rules.specs.Below.{sum}
 use Rattle.run.specs.State.{zoneAt, isSound, hasStarted, countOf}
-use Rattle.run.specs.Calls.{refused, isPair, answer, granted, questions, takenFirst, isNamed, actor, actorIn, ownQuestions}
+use Rattle.run.specs.Calls.{refused, isPair, answer, granted, questions, firstReceived, isNamed, actor, actorIn, ownQuestions}
 use Rattle.run.specs.Lists.{callOf, isAccepted}
 use Rattle.run.specs.Claims.{ownRefusals, answers}
 use Rattle.run.specs.declared.Run.{Run}
@@ -31,10 +31,10 @@ use Rattle.run.specs.Opening.{fallback, openCall, openedRun, openQuestio
 use Rattle.rules.proofs.AskLaws.{not-among, lacks, AllYes, numbers, ask-cases}
 
 -- What the receipt of the first item on the channel from a to b, and what a start by a, makes of the zone of a run that acts.
-abbrev pub gotBy : ℕ → ℕ → Run → Asked
-gotBy a b r = takenFirst a b (zoneAt (r .head) b) (r .channels)
+abbrev pub gotBy : ℕ → ℕ → Run → Requesting
+gotBy a b r = firstReceived a b (zoneAt (r .head) b) (r .channels)
 
-abbrev pub startBy : ℕ → Run → Asked
+abbrev pub startBy : ℕ → Run → Requesting
 startBy a r = startedBy a (zoneAt (r .head) a)
 
 -- Two different zones of the site, by index.
@@ -53,9 +53,9 @@ Sited count (start a) = a < count
 abbrev pub Asks : SiteCall → Run → Type 0
 Asks (Send from to cars) r =
     Pair (countOf (r .head)) (index from) (index to) × (cars ≤ zoneAt (r .head) (index from) .stock)
-    × (lenOf (r .channels) (place (index from) (index to)) < places)
+    × (lenOf (r .channels) (channelIndex (index from) (index to)) < places)
 Asks (Receive from to) r =
-    Pair (countOf (r .head)) (index from) (index to) × (0 < lenOf (r .channels) (place (index from) (index to)))
+    Pair (countOf (r .head)) (index from) (index to) × (0 < lenOf (r .channels) (channelIndex (index from) (index to)))
     × (allFree (r .channels) (index to) (gotBy (index from) (index to) r .to) ≡ true)
 Asks (Start zone) r =
     (index zone < countOf (r .head)) × (hasStarted (r .head) ≡ false)

@@ -12,17 +12,17 @@ use Rattle.rules.specs.Questions.{isCount}
 use Rattle.rules.specs.Site.{Site}
 use Rattle.rules.specs.declared.Local.{Local}
 use Rattle.rules.proofs.Tests.{and-left, and-right}
-use Rattle.channel.specs.Channels.{place, lenOf, itemsOn, isChannel}
+use Rattle.channel.specs.Channels.{channelIndex, lenOf, itemsOn, isChannel}
 use Rattle.rules.specs.Below.{sumBelow}
-use Rattle.run.specs.State.{zoneAt, zoneSound, zonesSound, setsWithin, channelSound, channelsSound, carsOf, stocks, carsOnChannels, partsSound, isSound, countOf, termsOf}
+use Rattle.run.specs.State.{zoneAt, localSound, localsSound, setsWithin, channelSound, channelsSound, carsOf, stocks, carsOnChannels, partsSound, isSound, countOf, termsOf}
 use Rattle.run.specs.Model.{siteOf}
 use Rattle.run.specs.declared.Run.{Run}
 use Rattle.run.proofs.BelowLaws.{all-of, sum-same}
-use Rattle.run.proofs.Facts.{channel-is, channel-at, place-lt, sound-low, sound-high, sound-records, sound-events, sound-deps, sound-length, sound-sets, sound-total}
+use Rattle.run.proofs.Facts.{channel-is, channel-at, channel-index-lt, sound-low, sound-high, sound-records, sound-events, sound-deps, sound-length, sound-sets, sound-total}
 
 -- Is there a channel from i to j on the site?
 abbrev pub onSite : ℕ → ℕ → ℕ → Bool
-onSite count i j = ltb j mostZones && isChannel count (place i j)
+onSite count i j = ltb j mostZones && isChannel count (channelIndex i j)
 
 pub record Between (count i j : ℕ) : Type 0 where
   pub from : i < count
@@ -32,8 +32,8 @@ pub record Between (count i j : ℕ) : Type 0 where
 
 pub between : (count i j : ℕ) → onSite count i j ≡ true → Between count i j
 between count i j e =
-    let h = ltb-true j 8 (and-left (ltb j 8) (isChannel count (place i j)) e) in
-    let f = sym (channel-is count i j h) ∙ and-right (ltb j 8) (isChannel count (place i j)) e in
+    let h = ltb-true j 8 (and-left (ltb j 8) (isChannel count (channelIndex i j)) e) in
+    let f = sym (channel-is count i j h) ∙ and-right (ltb j 8) (isChannel count (channelIndex i j)) e in
     let g = and-left (ltb i count && ltb j count) (not (eqb i j)) f in
     record {
       from = ltb-true i count (and-left (ltb i count) (ltb j count) g);
@@ -60,7 +60,7 @@ pub record SoundRun (r : Run) : Type 0 where
   pub records : r .head .records ≤ mostRecords
   pub events : (i : ℕ) → i < countOf (r .head) → siteOf r .zone i .events ≤ r .head .records
   pub deps : (i : ℕ) → i < countOf (r .head) → siteOf r .zone i .deps < 2 ^ countOf (r .head)
-  pub lens : (i j : ℕ) → onSite (countOf (r .head)) i j ≡ true → lenOf (r .channels) (place i j) ≤ places
+  pub lens : (i j : ℕ) → onSite (countOf (r .head)) i j ≡ true → lenOf (r .channels) (channelIndex i j) ≤ places
   pub sets : (i j : ℕ) → onSite (countOf (r .head)) i j ≡ true → setsWithin (countOf (r .head)) (siteOf r .channel i j) ≡ true
   pub cars : stocksS (countOf (r .head)) (siteOf r) + carsS (siteOf r) ≤ mostCars
 
@@ -68,7 +68,7 @@ pub record SoundRun (r : Run) : Type 0 where
 pub zone-on : (r : Run) (i : ℕ) → i < countOf (r .head) → siteOf r .zone i ≡ zoneAt (r .head) i
 zone-on r i h = rw (lt-ltb i (countOf (r .head)) h)
 
-pub channel-on : (r : Run) (i j : ℕ) → onSite (countOf (r .head)) i j ≡ true → siteOf r .channel i j ≡ itemsOn (r .channels) (place i j)
+pub channel-on : (r : Run) (i j : ℕ) → onSite (countOf (r .head)) i j ≡ true → siteOf r .channel i j ≡ itemsOn (r .channels) (channelIndex i j)
 channel-on r i j e = rw e
 
 pub stocks-are : (r : Run) → stocks (r .head) ≡ stocksS (countOf (r .head)) (siteOf r)
@@ -96,11 +96,11 @@ implies true q h = h refl
 implies false q h = refl
 
 zones-of : (r : Run) → ((i : ℕ) → i < countOf (r .head) → siteOf r .zone i .events ≤ r .head .records)
-    → ((i : ℕ) → i < countOf (r .head) → siteOf r .zone i .deps < 2 ^ countOf (r .head)) → zonesSound (r .head) ≡ true
-unfolding zonesSound zoneSound
+    → ((i : ℕ) → i < countOf (r .head) → siteOf r .zone i .deps < 2 ^ countOf (r .head)) → localsSound (r .head) ≡ true
+unfolding localsSound localSound
 zones-of r h k = all-of (countOf (r .head)) _ (λ i b. rw (← zone-on r i b, le-leb _ _ (h i b)) (lt-ltb _ _ (k i b)))
 
-channels-of : (r : Run) → ((i j : ℕ) → onSite (countOf (r .head)) i j ≡ true → lenOf (r .channels) (place i j) ≤ places)
+channels-of : (r : Run) → ((i j : ℕ) → onSite (countOf (r .head)) i j ≡ true → lenOf (r .channels) (channelIndex i j) ≤ places)
     → ((i j : ℕ) → onSite (countOf (r .head)) i j ≡ true → setsWithin (countOf (r .head)) (siteOf r .channel i j) ≡ true)
     → channelsSound (termsOf (r .head)) (r .channels) ≡ true
 unfolding channelsSound channelSound
@@ -116,11 +116,11 @@ channels-of r h k = all-of 64 _ (λ p b. implies (isChannel (countOf (r .head)) 
         subst (λ (q : ℕ). channelSound (termsOf (r .head)) (r .channels) q ≡ true) f
         (rw (le-leb _ _ (h i j e), ← channel-on r i j e) (k i j e))
 
--- A channel of the site stands at one of the 64 places.
-at-place : (count i j : ℕ) → count ≤ 8 → onSite count i j ≡ true → (place i j < 64) × (isChannel count (place i j) ≡ true)
-at-place count i j h e =
+-- A channel of the site stands at one of the 64 indices.
+at-index : (count i j : ℕ) → count ≤ 8 → onSite count i j ≡ true → (channelIndex i j < 64) × (isChannel count (channelIndex i j) ≡ true)
+at-index count i j h e =
     let b = between count i j e in
-    (place-lt count i j h (b .from) (b .to), and-right (ltb j 8) (isChannel count (place i j)) e)
+    (channel-index-lt count i j h (b .from) (b .to), and-right (ltb j 8) (isChannel count (channelIndex i j)) e)
 
 pub parts : (r : Run) → isSound r ≡ true → SoundRun r
 parts r h =
@@ -131,8 +131,8 @@ parts r h =
       records = sound-records _ _ h;
       events = λ i b. rw (zone-on r i b) (sound-events _ _ h i b);
       deps = λ i b. rw (zone-on r i b) (sound-deps _ _ h i b);
-      lens = λ i j e. let p = at-place (countOf (r .head)) i j m e in sound-length _ _ h (place i j) (p .0) (p .1);
-      sets = λ i j e. let p = at-place (countOf (r .head)) i j m e in rw (channel-on r i j e) (sound-sets _ _ h (place i j) (p .0) (p .1));
+      lens = λ i j e. let p = at-index (countOf (r .head)) i j m e in sound-length _ _ h (channelIndex i j) (p .0) (p .1);
+      sets = λ i j e. let p = at-index (countOf (r .head)) i j m e in rw (channel-on r i j e) (sound-sets _ _ h (channelIndex i j) (p .0) (p .1));
       cars = subst (λ (x : ℕ). x ≤ mostCars) (ap₂ _+_ (stocks-are r) (cars-are r)) (sound-total _ _ h);
     }
 

@@ -13,20 +13,20 @@ use Rattle.rules.specs.Change.{on, join}
 use Rattle.rules.specs.Limits.{places}
 use Rattle.rules.specs.Questions.{index}
 use Rattle.rules.specs.Sets.{has, nobody}
-use Rattle.rules.specs.Zone.{isMarked, isPermanent, opened, sent, received, started, requested, asked, carried}
+use Rattle.rules.specs.Zone.{hasCheckpoint, isPermanent, opened, sent, received, started, requested, targets, carried}
 use Rattle.rules.specs.Site.{Item, message, request, Site, sendS, popS, turnS, startS, takeS, stepS, openS}
 use Rattle.rules.specs.Cut.{May}
 use Rattle.rules.specs.declared.Local.{Local}
 use Rattle.rules.proofs.Tests.{and-left, and-right, both-true, Same, same?}
 use Rattle.rules.proofs.SetLaws.{has-nobody}
-use Rattle.local.specs.Asked.{requestedBy, startedBy}
-use Rattle.local.specs.declared.Asked.{Asked}
+use Rattle.local.specs.Requesting.{requestedBy, startedBy}
+use Rattle.local.specs.declared.Requesting.{Requesting}
 use Rattle.channel.specs.Words.{itemOf, messageWord}
-use Rattle.channel.specs.Channels.{Whole, place, lenOf, itemsOn, pushed, popped, firstOf, freeBelow, allFree, requestedAll}
+use Rattle.channel.specs.Channels.{Whole, channelIndex, lenOf, itemsOn, pushed, popped, firstOf, freeBelow, allFree, requestedAll}
 use Rattle.channel.specs.declared.Channels.{Channels}
 use Rattle.channel.proofs.View.{item-message, pop-whole, items-first, items-pushed, items-popped, len-pop-other, requested-items}
 use Rattle.run.specs.State.{noLocal, zoneAt, hasStarted, countOf, putBack}
-use Rattle.run.specs.Calls.{accepted, taken, answer, granted, recordOf}
+use Rattle.run.specs.Calls.{accepted, itemReceived, answer, granted, recordOf}
 use Rattle.run.specs.Model.{siteOf}
 use Rattle.run.specs.Lists.{callOf, isAccepted}
 use Rattle.run.specs.Claims.{WholeRun, Typed}
@@ -36,7 +36,7 @@ use Rattle.run.proofs.Outcome.{is-open, Pair, Asks, passed, Fitting, st
 use Rattle.run.proofs.Whole.{open-whole}
 use Rattle.run.proofs.BelowLaws.{any-none, list-at}
 use Rattle.run.proofs.Parts.{onSite, between, on-site, zone-on, channel-on, SoundRun, parts}
-use Rattle.run.proofs.SetBounds.{has-lt, asked-deps, asked-other}
+use Rattle.run.proofs.SetBounds.{has-lt, targets-deps, targets-other}
 use Rattle.run.specs.declared.SiteCall.{SiteCall}
 use Rattle.run.specs.Opening.{noChannels, openCall, openedRun, openedHead, openingOf, stockAt}
 use Rattle.run.specs.declared.SiteCall.the-variants.{Receive, Send, Start}
@@ -55,7 +55,7 @@ set-on xs a g k d h = go (same? k a)
 -- Zone a changes by g, and each channel of the site by its change.
 site-changed : (r : Run) (a : ℕ) (l : Channels) (word : ℕ) (g : Local → Local) (change : ℕ → ℕ → List Item → List Item)
     → length (r .head .zones) ≡ 8 → countOf (r .head) ≤ 8 → a < countOf (r .head)
-    → ((i j : ℕ) → onSite (countOf (r .head)) i j ≡ true → itemsOn l (place i j) ≡ change i j (itemsOn (r .channels) (place i j)))
+    → ((i j : ℕ) → onSite (countOf (r .head)) i j ≡ true → itemsOn l (channelIndex i j) ≡ change i j (itemsOn (r .channels) (channelIndex i j)))
     → ((i j : ℕ) → onSite (countOf (r .head)) i j ≡ false → change i j [] ≡ [])
     → siteOf (accepted r a (g (zoneAt (r .head) a)) l word .run)
     ≡ record { zone = λ k. on (eqb k a) g (siteOf r .zone k); channel = λ i j. change i j (siteOf r .channel i j) }
@@ -69,7 +69,7 @@ site-changed r a l word g change w m h inner outer =
     zone k false e = let b = ltb-false k (countOf (r .head)) e in rw (ne-eqb k a (λ q. omega arith))
 
     channel : (i j : ℕ) (p : Bool) → onSite (countOf (r .head)) i j ≡ p
-        → cond p (itemsOn l (place i j)) [] ≡ change i j (cond p (itemsOn (r .channels) (place i j)) [])
+        → cond p (itemsOn l (channelIndex i j)) [] ≡ change i j (cond p (itemsOn (r .channels) (channelIndex i j)) [])
     channel i j true e = inner i j e
     channel i j false e = sym (outer i j e)
 
@@ -77,7 +77,7 @@ false-of : (p : Bool) → (p ≡ true → ⊥) → p ≡ false
 false-of true h = absurd (h refl)
 false-of false h = refl
 
--- A channel that the site does not have is neither that of a pair of its zones nor one to a zone that is asked.
+-- A channel that the site does not have is neither that of a pair of its zones nor one to a target.
 off-pair : (count a b i j : ℕ) → count ≤ 8 → Pair count a b → onSite count i j ≡ false → eqb i a && eqb j b ≡ false
 off-pair count a b i j m p e = false-of (eqb i a && eqb j b) no-pair
   where
@@ -86,16 +86,16 @@ off-pair count a b i j m p e = false-of (eqb i a && eqb j b) no-pair
         let (x, y) = both-true i a j b t in
         true≢false (sym (rw (x, y) (on-site count a b m (p .from) (p .to) (p .apart))) ∙ e)
 
-off-asked : (count b set i j : ℕ) (z : Local) → count ≤ 8 → b < count → z .deps < 2 ^ count → onSite count i j ≡ false
-    → eqb i b && has (asked b set z) j ≡ false
-off-asked count b set i j z m h d e = false-of (eqb i b && has (asked b set z) j) no-ask
+off-targets : (count b set i j : ℕ) (z : Local) → count ≤ 8 → b < count → z .deps < 2 ^ count → onSite count i j ≡ false
+    → eqb i b && has (targets b set z) j ≡ false
+off-targets count b set i j z m h d e = false-of (eqb i b && has (targets b set z) j) no-target
   where
-    no-ask : eqb i b && has (asked b set z) j ≡ true → ⊥
-    no-ask t =
+    no-target : eqb i b && has (targets b set z) j ≡ true → ⊥
+    no-target t =
         let x = eqb-true i b (and-left (eqb i b) _ t) in
-        let y = and-right (eqb i b) (has (asked b set z) j) t in
-        let g = has-lt (z .deps) count j d (asked-deps b set z j y) in
-        true≢false (sym (rw x (on-site count b j m h g (λ q. asked-other b set z j y (sym q)))) ∙ e)
+        let y = and-right (eqb i b) (has (targets b set z) j) t in
+        let g = has-lt (z .deps) count j d (targets-deps b set z j y) in
+        true≢false (sym (rw x (on-site count b j m h g (λ q. targets-other b set z j y (sym q)))) ∙ e)
 
 filled : (x : Item) (xs : List Item) → [] ≡ x ∷ xs → ⊥
 filled x xs e = let z : _≡_ {A = Bool} true false = cc in true≢false z
@@ -105,49 +105,49 @@ on-same true v = refl
 on-same false v = refl
 
 -- The channels from b have the free places that they had before an item left another.
-free-kept : (n : ℕ) (l m : Channels) (b to : ℕ) → n ≤ 8 → ((j : ℕ) → j < 8 → lenOf m (place b j) ≡ lenOf l (place b j))
+free-kept : (n : ℕ) (l m : Channels) (b to : ℕ) → n ≤ 8 → ((j : ℕ) → j < 8 → lenOf m (channelIndex b j) ≡ lenOf l (channelIndex b j))
     → freeBelow n m b to ≡ freeBelow n l b to
 free-kept zero l m b to h e = refl
 free-kept (suc n) l m b to h e = rw (free-kept n l m b to (omega arith) e, e n (omega arith))
 
-pub popped-free : (l : Channels) (a b to : ℕ) → a ≢ b → b < 8 → allFree l b to ≡ true → allFree (popped l (place a b)) b to ≡ true
+pub popped-free : (l : Channels) (a b to : ℕ) → a ≢ b → b < 8 → allFree l b to ≡ true → allFree (popped l (channelIndex a b)) b to ≡ true
 unfolding allFree
 popped-free l a b to d h f =
-    free-kept 8 l (popped l (place a b)) b to (omega arith)
-    (λ j hj. len-pop-other l (place a b) (place b j) (λ e. d (omega arith)))
+    free-kept 8 l (popped l (channelIndex a b)) b to (omega arith)
+    (λ j hj. len-pop-other l (channelIndex a b) (channelIndex b j) (λ e. d (omega arith)))
     ∙ f
 
 module _ (r : Run) (w : WholeRun r) (s : SoundRun r) where
   -- A hand-over from a to b.
-  sent-site : (a b cars word : ℕ) → Pair (countOf (r .head)) a b → cars < 256 → lenOf (r .channels) (place a b) < places
+  sent-site : (a b cars word : ℕ) → Pair (countOf (r .head)) a b → cars < 256 → lenOf (r .channels) (channelIndex a b) < places
       → siteOf (accepted r a (sent cars (zoneAt (r .head) a))
-      (pushed (r .channels) (place a b) (messageWord (isMarked (zoneAt (r .head) a .checkpoint)) cars)) word .run)
+      (pushed (r .channels) (channelIndex a b) (messageWord (hasCheckpoint (zoneAt (r .head) a .checkpoint)) cars)) word .run)
       ≡ sendS a b cars (siteOf r)
   sent-site a b cars word p c free =
-      let x = messageWord (isMarked (zoneAt (r .head) a .checkpoint)) cars in
+      let x = messageWord (hasCheckpoint (zoneAt (r .head) a .checkpoint)) cars in
       let ha : a < 8 = omega (arith, p .from, s .most) in
       let hb : b < 8 = omega (arith, p .to, s .most) in
-      let item : itemOf x ≡ message cars (isMarked (siteOf r .zone a .checkpoint)) =
-      item-message (isMarked (zoneAt (r .head) a .checkpoint)) cars c
-      ∙ ap (λ (z : Local). message cars (isMarked (z .checkpoint))) (sym (zone-on r a (p .from))) in
-      site-changed r a (pushed (r .channels) (place a b) x) word (sent cars)
-      (λ i j. on (eqb i a && eqb j b) (join (message cars (isMarked (siteOf r .zone a .checkpoint)))))
+      let item : itemOf x ≡ message cars (hasCheckpoint (siteOf r .zone a .checkpoint)) =
+      item-message (hasCheckpoint (zoneAt (r .head) a .checkpoint)) cars c
+      ∙ ap (λ (z : Local). message cars (hasCheckpoint (z .checkpoint))) (sym (zone-on r a (p .from))) in
+      site-changed r a (pushed (r .channels) (channelIndex a b) x) word (sent cars)
+      (λ i j. on (eqb i a && eqb j b) (join (message cars (hasCheckpoint (siteOf r .zone a .checkpoint)))))
       (w .zones) (s .most) (p .from)
       (λ i j e.
       items-pushed (r .channels) a b (w .channels) ha hb x (lt-ltb _ 16 free) i j (between (countOf (r .head)) i j e .near)
-      ∙ ap (λ (x : Item). on (eqb i a && eqb j b) (join x) (itemsOn (r .channels) (place i j))) item)
+      ∙ ap (λ (x : Item). on (eqb i a && eqb j b) (join x) (itemsOn (r .channels) (channelIndex i j))) item)
       (λ i j e. rw (off-pair (countOf (r .head)) a b i j (s .most) p e))
 
-  -- Requests that b sends, over channels l: where nobody is asked, what they would carry does not matter.
-  asked-items : (l : Channels) (b to set i j : ℕ) → Whole l → b < countOf (r .head) → allFree l b to ≡ true → j < 8
-      → itemsOn (requestedAll l b to (cond (eqb to 0) 0 set)) (place i j)
-      ≡ on (eqb i b && has to j) (join (request set)) (itemsOn l (place i j))
-  asked-items l b to set i j v h f hj =
+  -- Requests that b sends, over channels l: where there is no target, what they would carry does not matter.
+  requests-items : (l : Channels) (b to set i j : ℕ) → Whole l → b < countOf (r .head) → allFree l b to ≡ true → j < 8
+      → itemsOn (requestedAll l b to (cond (eqb to 0) 0 set)) (channelIndex i j)
+      ≡ on (eqb i b && has to j) (join (request set)) (itemsOn l (channelIndex i j))
+  requests-items l b to set i j v h f hj =
       requested-items l b to (cond (eqb to 0) 0 set) v (omega (arith, s .most)) f i j hj ∙ go (eqb to 0) refl
     where
       go : (p : Bool) → eqb to 0 ≡ p
-          → on (eqb i b && has to j) (join (request (cond p 0 set))) (itemsOn l (place i j))
-          ≡ on (eqb i b && has to j) (join (request set)) (itemsOn l (place i j))
+          → on (eqb i b && has to j) (join (request (cond p 0 set))) (itemsOn l (channelIndex i j))
+          ≡ on (eqb i b && has to j) (join (request set)) (itemsOn l (channelIndex i j))
       go true e = rw (eqb-true to 0 e, has-nobody j, and-false (eqb i b))
       go false e = refl
 
@@ -158,27 +158,27 @@ module _ (r : Run) (w : WholeRun r) (s : SoundRun r) where
   unfolding startedBy
   started-site a word h f =
       let z = zoneAt (r .head) a in
-      let to = asked a nobody z in
+      let to = targets a nobody z in
       let d : z .deps < 2 ^ countOf (r .head) = subst (λ (z : Local). z .deps < 2 ^ countOf (r .head)) (zone-on r a h) (s .deps a h) in
       rw (zone-on r a h)
       (site-changed r a (requestedAll (r .channels) a to (cond (eqb to 0) 0 (carried nobody z))) word started
       (λ i j. on (eqb i a && has to j) (join (request (carried nobody z))))
       (w .zones) (s .most) h
-      (λ i j e. asked-items (r .channels) a to (carried nobody z) i j (w .channels) h f (between (countOf (r .head)) i j e .near))
-      (λ i j e. rw (off-asked (countOf (r .head)) a nobody i j z (s .most) h d e)))
+      (λ i j e. requests-items (r .channels) a to (carried nobody z) i j (w .channels) h f (between (countOf (r .head)) i j e .near))
+      (λ i j e. rw (off-targets (countOf (r .head)) a nobody i j z (s .most) h d e)))
 
   -- A receipt by b from a: the first item leaves, b changes by g and sends requests.
-  module _ (a b : ℕ) (p : Pair (countOf (r .head)) a b) (some : 0 < lenOf (r .channels) (place a b)) (word : ℕ) where
+  module _ (a b : ℕ) (p : Pair (countOf (r .head)) a b) (some : 0 < lenOf (r .channels) (channelIndex a b)) (word : ℕ) where
     popped-site : (g : Local → Local) (to set : ℕ) → allFree (r .channels) b to ≡ true
         → ((i j : ℕ) → onSite (countOf (r .head)) i j ≡ false → eqb i b && has to j ≡ false)
         → siteOf (accepted r b (g (zoneAt (r .head) b))
-        (requestedAll (popped (r .channels) (place a b)) b to (cond (eqb to 0) 0 set)) word .run)
+        (requestedAll (popped (r .channels) (channelIndex a b)) b to (cond (eqb to 0) 0 set)) word .run)
         ≡ record {
           zone = λ k. on (eqb k b) g (siteOf r .zone k);
           channel = λ i j. on (eqb i b && has to j) (join (request set)) (on (eqb i a && eqb j b) tail (siteOf r .channel i j));
         }
     popped-site g to set f off =
-        let l = popped (r .channels) (place a b) in
+        let l = popped (r .channels) (channelIndex a b) in
         let ha : a < 8 = omega (arith, p .from, s .most) in
         let hb : b < 8 = omega (arith, p .to, s .most) in
         let few = s .lens a b (on-site (countOf (r .head)) a b (s .most) (p .from) (p .to) (p .apart)) in
@@ -186,14 +186,14 @@ module _ (r : Run) (w : WholeRun r) (s : SoundRun r) where
         (λ i j xs. on (eqb i b && has to j) (join (request set)) (on (eqb i a && eqb j b) tail xs))
         (w .zones) (s .most) (p .to)
         (λ i j e. let near = between (countOf (r .head)) i j e .near in
-        asked-items l b to set i j (pop-whole (r .channels) (place a b) (w .channels)) (p .to)
+        requests-items l b to set i j (pop-whole (r .channels) (channelIndex a b) (w .channels)) (p .to)
         (popped-free (r .channels) a b to (p .apart) hb f) near
         ∙ ap (on (eqb i b && has to j) (join (request set))) (items-popped (r .channels) a b (w .channels) ha hb some few i j near))
         (λ i j e. rw (off i j e, off-pair (countOf (r .head)) a b i j (s .most) p e))
 
-    -- Where nobody is asked, only the first item leaves.
+    -- Where there is no target, only the first item leaves.
     quiet-site : (g : Local → Local) → allFree (r .channels) b nobody ≡ true
-        → siteOf (accepted r b (g (zoneAt (r .head) b)) (requestedAll (popped (r .channels) (place a b)) b nobody nobody) word .run)
+        → siteOf (accepted r b (g (zoneAt (r .head) b)) (requestedAll (popped (r .channels) (channelIndex a b)) b nobody nobody) word .run)
         ≡ record {
           zone = λ k. on (eqb k b) g (siteOf r .zone k);
           channel = λ i j. on (eqb i a && eqb j b) tail (siteOf r .channel i j);
@@ -203,14 +203,14 @@ module _ (r : Run) (w : WholeRun r) (s : SoundRun r) where
         ∙ site≡ _ _ (λ k. refl) (λ i j. rw (has-nobody j, and-false (eqb i b)))
 
     -- The site after b has taken an item, with what that makes of it.
-    abbrev takenAs : Asked → Site
-    takenAs got =
-        let l = requestedAll (popped (r .channels) (place a b)) b (got .to) (got .carried) in
+    abbrev receivedAs : Requesting → Site
+    receivedAs got =
+        let l = requestedAll (popped (r .channels) (channelIndex a b)) b (got .to) (got .carried) in
         siteOf (accepted r b (got .local) l word .run)
 
     request-site : (set : ℕ) (q : Bool) → isPermanent (zoneAt (r .head) b .checkpoint) ≡ q
         → allFree (r .channels) b (requestedBy b set (zoneAt (r .head) b) .to) ≡ true
-        → takenAs (requestedBy b set (zoneAt (r .head) b)) ≡ on (not q) (turnS b set) (popS a b (siteOf r))
+        → receivedAs (requestedBy b set (zoneAt (r .head) b)) ≡ on (not q) (turnS b set) (popS a b (siteOf r))
     unfolding requestedBy
     request-site set true e f =
         rw e (quiet-site (λ z. z) (rw e at f) ∙ site≡ _ _ (λ k. on-same (eqb k b) (siteOf r .zone k)) (λ i j. refl))
@@ -218,13 +218,13 @@ module _ (r : Run) (w : WholeRun r) (s : SoundRun r) where
         let z = zoneAt (r .head) b in
         let d : z .deps < 2 ^ countOf (r .head) = subst (λ (z : Local). z .deps < 2 ^ countOf (r .head)) (zone-on r b (p .to)) (s .deps b (p .to)) in
         rw (e, zone-on r b (p .to))
-        (popped-site requested (asked b set z) (carried set z) (rw e at f)
-        (λ i j e. off-asked (countOf (r .head)) b set i j z (s .most) (p .to) d e))
+        (popped-site requested (targets b set z) (carried set z) (rw e at f)
+        (λ i j e. off-targets (countOf (r .head)) b set i j z (s .most) (p .to) d e))
 
-    taken-site : (x : Item) (rest : List Item) → allFree (r .channels) b (taken a b x (zoneAt (r .head) b) .to) ≡ true
-        → takenAs (taken a b x (zoneAt (r .head) b)) ≡ takeS a b (x ∷ rest) (siteOf r)
-    taken-site (message cars flag) rest f = quiet-site (received a cars flag) f
-    taken-site (request set) rest f =
+    received-site : (x : Item) (rest : List Item) → allFree (r .channels) b (itemReceived a b x (zoneAt (r .head) b) .to) ≡ true
+        → receivedAs (itemReceived a b x (zoneAt (r .head) b)) ≡ takeS a b (x ∷ rest) (siteOf r)
+    received-site (message cars flag) rest f = quiet-site (received a cars flag) f
+    received-site (request set) rest f =
         request-site set (isPermanent (siteOf r .zone b .checkpoint))
         (ap (λ (z : Local). isPermanent (z .checkpoint)) (sym (zone-on r b (p .to)))) f
 
@@ -238,11 +238,11 @@ module _ (r : Run) (w : WholeRun r) (s : SoundRun r) where
       go false h = refl
 
   -- The first item of a channel that is not empty.
-  first-item : (a b : ℕ) → Pair (countOf (r .head)) a b → 0 < lenOf (r .channels) (place a b)
-      → siteOf r .channel a b ≡ itemOf (firstOf (r .channels) (place a b)) ∷ tail (itemsOn (r .channels) (place a b))
+  first-item : (a b : ℕ) → Pair (countOf (r .head)) a b → 0 < lenOf (r .channels) (channelIndex a b)
+      → siteOf r .channel a b ≡ itemOf (firstOf (r .channels) (channelIndex a b)) ∷ tail (itemsOn (r .channels) (channelIndex a b))
   first-item a b p h =
       channel-on r a b (on-site (countOf (r .head)) a b (s .most) (p .from) (p .to) (p .apart))
-      ∙ items-first (r .channels) (place a b) (w .channels) (omega (arith, p .from, p .to, s .most)) h
+      ∙ items-first (r .channels) (channelIndex a b) (w .channels) (omega (arith, p .from, p .to, s .most)) h
 
   granted-site : (c : SiteCall) → Typed c → Asks c r
       → (siteOf (granted c r .run) ≡ stepS (callOf c) (siteOf r)) × May (callOf c) (siteOf r)
@@ -253,10 +253,10 @@ module _ (r : Run) (w : WholeRun r) (s : SoundRun r) where
   granted-site (Receive from to) t (p, e, f) =
       let a = index from in
       let b = index to in
-      let x = itemOf (firstOf (r .channels) (place a b)) in
-      let rest = tail (itemsOn (r .channels) (place a b)) in
+      let x = itemOf (firstOf (r .channels) (channelIndex a b)) in
+      let rest = tail (itemsOn (r .channels) (channelIndex a b)) in
       let q = first-item a b p e in (
-        taken-site a b p e (recordOf (Receive from to)) x rest f ∙ ap (λ (xs : List Item). takeS a b xs (siteOf r)) (sym q),
+        received-site a b p e (recordOf (Receive from to)) x rest f ∙ ap (λ (xs : List Item). takeS a b xs (siteOf r)) (sym q),
         λ n. filled x rest (sym n ∙ q),
       )
   granted-site (Start zone) t (p, e, f) = (started-site (index zone) (recordOf (Start zone)) p f, none-permanent e)
@@ -287,8 +287,8 @@ opened-site o f = site≡ _ _ (λ k. zone k (ltb k (o .terms .count)) refl) (λ 
         let b = ltb-false k (o .terms .count) e in
         ap (opened k) (sym (List·getD-eq-default (o .stocks) 0 (omega (arith, f .lengths))))
 
-    channel : (i j : ℕ) (p : Bool) → cond p (itemsOn noChannels (place i j)) [] ≡ []
-    channel i j true = rw (none-at 64 (place i j))
+    channel : (i j : ℕ) (p : Bool) → cond p (itemsOn noChannels (channelIndex i j)) [] ≡ []
+    channel i j true = rw (none-at 64 (channelIndex i j))
     channel i j false = refl
 
 pub open-refines : (o : Opening) → openCall o .refusal ≡ 0

@@ -10,7 +10,7 @@ use lib.Bits.{or-lt, xor-lt, and-le-l}
 use lib.Pow.{pow-mono}
 use borrow.Author.Tests.{leb-true, leb-false, not-true, eqb-false}
 use Rattle.rules.specs.Sets.{has, only, union}
-use Rattle.rules.specs.Zone.{asked, carried}
+use Rattle.rules.specs.Zone.{targets, carried}
 use Rattle.rules.specs.declared.Local.{Local}
 use Rattle.rules.proofs.SetLaws.{has-union, has-difference, has-only}
 use Rattle.rules.proofs.Tests.{and-left, and-right, or-off-right}
@@ -26,18 +26,18 @@ has-lt s n j h e = go (leb n j) refl
         absurd (false≢true (sym (ap (λ (x : ℕ). eqb (x % 2) 1) q) ∙ e))
     go false f = leb-false n j f
 
--- Whoever is asked is depended on and another than the asker.
-pub asked-deps : (me set : ℕ) (z : Local) (j : ℕ) → has (asked me set z) j ≡ true → has (z .deps) j ≡ true
-asked-deps me set z j e = and-left _ _ (sym (has-difference (z .deps) (union set (only me)) j) ∙ e)
+-- A target is depended on and another than the sender.
+pub targets-deps : (me set : ℕ) (z : Local) (j : ℕ) → has (targets me set z) j ≡ true → has (z .deps) j ≡ true
+targets-deps me set z j e = and-left _ _ (sym (has-difference (z .deps) (union set (only me)) j) ∙ e)
 
-pub asked-other : (me set : ℕ) (z : Local) (j : ℕ) → has (asked me set z) j ≡ true → j ≢ me
-asked-other me set z j e =
+pub targets-other : (me set : ℕ) (z : Local) (j : ℕ) → has (targets me set z) j ≡ true → j ≢ me
+targets-other me set z j e =
     let p = and-right (has (z .deps) j) _ (sym (has-difference (z .deps) (union set (only me)) j) ∙ e) in
     let q = sym (has-union set (only me) j) ∙ not-true _ p in
     eqb-false j me (sym (has-only me j) ∙ or-off-right (has set j) _ q)
 
-pub asked-lt : (n me set : ℕ) (z : Local) → z .deps < 2 ^ n → asked me set z < 2 ^ n
-asked-lt n me set z h =
+pub targets-lt : (n me set : ℕ) (z : Local) → z .deps < 2 ^ n → targets me set z < 2 ^ n
+targets-lt n me set z h =
     xor-lt n (z .deps) _ h (omega (arith, and-le-l (z .deps) (union set (only me))))
 
 pub carried-lt : (n set : ℕ) (z : Local) → z .deps < 2 ^ n → set < 2 ^ n → carried set z < 2 ^ n

@@ -14,15 +14,15 @@ use Rattle.rules.specs.Change.{on, join}
 use Rattle.rules.specs.Limits.{mostCars, places}
 use Rattle.rules.specs.Questions.{index}
 use Rattle.rules.specs.Sets.{has, nobody, only}
-use Rattle.rules.specs.Zone.{isPermanent, sent, received, started, requested, depsAfter, asked, carried}
-use Rattle.rules.specs.Site.{Item, message, request, Site, Call, send, receive, start, popS, askS, turnS, stepS, takeS}
+use Rattle.rules.specs.Zone.{isPermanent, sent, received, started, requested, depsAfter, targets, carried}
+use Rattle.rules.specs.Site.{Item, message, request, Site, Call, send, receive, start, popS, requestAllS, turnS, stepS, takeS}
 use Rattle.rules.specs.declared.Local.{Local}
 use Rattle.rules.specs.declared.Checkpoint.{Checkpoint}
 use Rattle.rules.specs.declared.Checkpoint.the-variants.{None, Mutable, Permanent}
 use Rattle.rules.proofs.Guarded.{on-keeps}
 use Rattle.rules.proofs.Tests.{and-left, and-right, both-true}
 use Rattle.channel.specs.Words.{setIn}
-use Rattle.channel.specs.Channels.{Whole, place, lenOf, isFree, pushed, popped, freeBelow, allFree, requestedAll}
+use Rattle.channel.specs.Channels.{Whole, channelIndex, lenOf, isFree, pushed, popped, freeBelow, allFree, requestedAll}
 use Rattle.channel.specs.declared.Channels.{Channels}
 use Rattle.channel.proofs.View.{pop-whole, lens-pushed, lens-popped, requested-lens}
 use Rattle.run.specs.State.{setsWithin, isSound, countOf}
@@ -101,9 +101,9 @@ within-tail n (x ∷ xs) e = and-right (ltb (setIn x) (2 ^ n)) _ e
 within-first : (n set : ℕ) (xs : List Item) → setsWithin n (request set ∷ xs) ≡ true → set < 2 ^ n
 within-first n set xs e = ltb-true set (2 ^ n) (and-left _ (setsWithin n xs) e)
 
-asked-sets : (n b to set : ℕ) (g : Local → Local) (s : Site) (i j : ℕ) → set < 2 ^ n → setsWithin n (s .channel i j) ≡ true
-    → setsWithin n (askS b g to set s .channel i j) ≡ true
-asked-sets n b to set g s i j h e =
+requests-sets : (n b to set : ℕ) (g : Local → Local) (s : Site) (i j : ℕ) → set < 2 ^ n → setsWithin n (s .channel i j) ≡ true
+    → setsWithin n (requestAllS b g to set s .channel i j) ≡ true
+requests-sets n b to set g s i j h e =
     on-keeps (λ (xs : List Item). setsWithin n xs ≡ true) (eqb i b && has to j) (join (request set)) (s .channel i j)
     (within-join n (request set) (s .channel i j) h) e
 
@@ -128,56 +128,56 @@ sets-step n (receive a b) s most p d h i j o = go (s .channel a b) refl
         (h a b (on-site n a b most (p .from) (p .to) (p .apart)))) in
         on-keeps (λ (t : Site). setsWithin n (t .channel i j) ≡ true) (not (isPermanent (s .zone b .checkpoint))) (turnS b set)
         (popS a b s)
-        (asked-sets n b (asked b set (s .zone b)) (carried set (s .zone b)) requested (popS a b s) i j
+        (requests-sets n b (targets b set (s .zone b)) (carried set (s .zone b)) requested (popS a b s) i j
         (carried-lt n set (s .zone b) (d b (p .to)) v)) popped-sets
 sets-step n (start a) s most p d h i j o =
-    asked-sets n a (asked a nobody (s .zone a)) (carried nobody (s .zone a)) started s i j
+    requests-sets n a (targets a nobody (s .zone a)) (carried nobody (s .zone a)) started s i j
     (carried-lt n nobody (s .zone a) (d a p) (pow-pos n)) (h i j o)
 
 -- No channel gets more items than it has places.
-free-at : (n : ℕ) (l : Channels) (b to j : ℕ) → freeBelow n l b to ≡ true → j < n → has to j ≡ true → lenOf l (place b j) < places
+free-at : (n : ℕ) (l : Channels) (b to j : ℕ) → freeBelow n l b to ≡ true → j < n → has to j ≡ true → lenOf l (channelIndex b j) < places
 free-at zero l b to j f h e = absurd (not-suc-le-zero h)
 free-at (suc n) l b to j f h e = go (λ m. free-at n l b to j (and-left (freeBelow n l b to) last f) m e) (split j n h)
   where
     last : Bool
-    last = not (has to n) || isFree l (place b n)
+    last = not (has to n) || isFree l (channelIndex b n)
 
-    go : (j < n → lenOf l (place b j) < places) → (j < n) ⊎ (j ≡ n) → lenOf l (place b j) < places
+    go : (j < n → lenOf l (channelIndex b j) < places) → (j < n) ⊎ (j ≡ n) → lenOf l (channelIndex b j) < places
     go more (inl m) = more m
     go more (inr m) =
         let q : has to n ≡ true = ap (has to) (sym m) ∙ e in
-        let g : isFree l (place b n) ≡ true = rw q at (and-right (freeBelow n l b to) last f) in
-        rw m (ltb-true (lenOf l (place b n)) places g)
+        let g : isFree l (channelIndex b n) ≡ true = rw q at (and-right (freeBelow n l b to) last f) in
+        rw m (ltb-true (lenOf l (channelIndex b n)) places g)
 
-asked-lens : (l : Channels) (b to set i j : ℕ) → Whole l → b < 8 → allFree l b to ≡ true → j < 8 → lenOf l (place i j) ≤ places
-    → lenOf (requestedAll l b to set) (place i j) ≤ places
+requests-lens : (l : Channels) (b to set i j : ℕ) → Whole l → b < 8 → allFree l b to ≡ true → j < 8 → lenOf l (channelIndex i j) ≤ places
+    → lenOf (requestedAll l b to set) (channelIndex i j) ≤ places
 unfolding allFree
-asked-lens l b to set i j w hb f hj h = rw (requested-lens l b to set w hb f i j hj) (go (eqb i b && has to j) refl)
+requests-lens l b to set i j w hb f hj h = rw (requested-lens l b to set w hb f i j hj) (go (eqb i b && has to j) refl)
   where
-    go : (t : Bool) → eqb i b && has to j ≡ t → on t (λ n. n + 1) (lenOf l (place i j)) ≤ places
+    go : (t : Bool) → eqb i b && has to j ≡ t → on t (λ n. n + 1) (lenOf l (channelIndex i j)) ≤ places
     go true e =
         let x = eqb-true i b (and-left (eqb i b) (has to j) e) in
         let g = free-at 8 l b to j f hj (and-right (eqb i b) (has to j) e) in
         rw x (omega arith)
     go false e = h
 
-pushed-lens : (l : Channels) (a b word i j : ℕ) → Whole l → a < 8 → b < 8 → lenOf l (place a b) < places → j < 8
-    → lenOf l (place i j) ≤ places → lenOf (pushed l (place a b) word) (place i j) ≤ places
+pushed-lens : (l : Channels) (a b word i j : ℕ) → Whole l → a < 8 → b < 8 → lenOf l (channelIndex a b) < places → j < 8
+    → lenOf l (channelIndex i j) ≤ places → lenOf (pushed l (channelIndex a b) word) (channelIndex i j) ≤ places
 pushed-lens l a b word i j w ha hb f hj h =
     rw (lens-pushed l a b w ha hb word (lt-ltb _ places f) i j hj) (go (eqb i a && eqb j b) refl)
   where
-    go : (t : Bool) → eqb i a && eqb j b ≡ t → on t (λ n. n + 1) (lenOf l (place i j)) ≤ places
+    go : (t : Bool) → eqb i a && eqb j b ≡ t → on t (λ n. n + 1) (lenOf l (channelIndex i j)) ≤ places
     go true e = let (x, y) = both-true i a j b e in rw (x, y) (omega arith)
     go false e = h
 
-popped-lens : (l : Channels) (a b i j : ℕ) → Whole l → a < 8 → b < 8 → j < 8 → lenOf l (place i j) ≤ places
-    → lenOf (popped l (place a b)) (place i j) ≤ places
+popped-lens : (l : Channels) (a b i j : ℕ) → Whole l → a < 8 → b < 8 → j < 8 → lenOf l (channelIndex i j) ≤ places
+    → lenOf (popped l (channelIndex a b)) (channelIndex i j) ≤ places
 popped-lens l a b i j w ha hb hj h =
     rw (lens-popped l a b w ha hb i j hj)
-    (on-keeps (λ (n : ℕ). n ≤ places) (eqb i a && eqb j b) (λ n. n - 1) (lenOf l (place i j)) (λ h. omega arith) h)
+    (on-keeps (λ (n : ℕ). n ≤ places) (eqb i a && eqb j b) (λ n. n - 1) (lenOf l (channelIndex i j)) (λ h. omega arith) h)
 
 lens-step : (c : SiteCall) (r : Run) → WholeRun r → SoundRun r → Asks c r → (i j : ℕ) → onSite (countOf (r .head)) i j ≡ true
-    → lenOf (channelsAfter c (actorIn c r) (r .channels)) (place i j) ≤ places
+    → lenOf (channelsAfter c (actorIn c r) (r .channels)) (channelIndex i j) ≤ places
 lens-step (Send from to cars) r w s (p, c, f) i j o =
     pushed-lens (r .channels) (index from) (index to) _ i j (w .channels) (omega (arith, p .from, s .most))
     (omega (arith, p .to, s .most)) f
@@ -187,11 +187,11 @@ lens-step (Receive from to) r w s (p, c, f) i j o =
     let b = index to in
     let hb : b < 8 = omega (arith, p .to, s .most) in
     let near = between (countOf (r .head)) i j o .near in
-    asked-lens (popped (r .channels) (place a b)) b _ _ i j (pop-whole (r .channels) (place a b) (w .channels)) hb
+    requests-lens (popped (r .channels) (channelIndex a b)) b _ _ i j (pop-whole (r .channels) (channelIndex a b) (w .channels)) hb
     (popped-free (r .channels) a b _ (p .apart) hb f) near
     (popped-lens (r .channels) a b i j (w .channels) (omega (arith, p .from, s .most)) hb near (s .lens i j o))
 lens-step (Start zone) r w s (p, c, f) i j o =
-    asked-lens (r .channels) (index zone) _ _ i j (w .channels) (omega (arith, s .most)) f (between (countOf (r .head)) i j o .near)
+    requests-lens (r .channels) (index zone) _ _ i j (w .channels) (omega (arith, s .most)) f (between (countOf (r .head)) i j o .near)
     (s .lens i j o)
 
 -- An accepted call hands back a sound run.
@@ -239,7 +239,7 @@ opened-facts o f =
       records = omega arith;
       events = λ i b. subst (λ (x : Site). x .zone i .events ≤ 0) (sym q) (omega arith);
       deps = λ i b. subst (λ (x : Site). x .zone i .deps < 2 ^ o .terms .count) (sym q) (pow-lt b);
-      lens = λ i j e. subst (λ (n : ℕ). n ≤ places) (sym (none-at 64 (place i j))) (omega arith);
+      lens = λ i j e. subst (λ (n : ℕ). n ≤ places) (sym (none-at 64 (channelIndex i j))) (omega arith);
       sets = λ i j e. subst (λ (x : Site). setsWithin (o .terms .count) (x .channel i j) ≡ true) (sym q) refl;
       cars = subst (λ (n : ℕ). n ≤ mostCars) (sym (opened-cars o f) ∙ cars-at r) (f .cars);
     }

@@ -5,7 +5,7 @@ use mathlib.Core.List.{List, [], _∷_}
 use Prim.Native.Nat.{ℕ}
 use lib.ListN.{length-set, length-replicate}
 use Rattle.rules.specs.Questions.{index}
-use Rattle.channel.specs.Channels.{Whole, place, popped}
+use Rattle.channel.specs.Channels.{Whole, channelIndex, popped}
 use Rattle.channel.proofs.View.{push-whole, pop-whole, requested-whole}
 use Rattle.run.specs.Calls.{actor, answer, channelsAfter, granted, zoneAfter, actorIn}
 use Rattle.run.specs.Lists.{after}
@@ -21,7 +21,7 @@ use Rattle.run.specs.Opening.{openCall, openedRun, fallback}
 channels-whole : (c : SiteCall) (r : Run) → Whole (r .channels) → Whole (channelsAfter c (actorIn c r) (r .channels))
 channels-whole (Send from to cars) r w = push-whole (r .channels) _ _ w
 channels-whole (Receive from to) r w =
-    requested-whole (popped (r .channels) (place (index from) (index to))) _ _ _ (pop-whole (r .channels) _ w)
+    requested-whole (popped (r .channels) (channelIndex (index from) (index to))) _ _ _ (pop-whole (r .channels) _ w)
 channels-whole (Start zone) r w = requested-whole (r .channels) _ _ _ w
 
 granted-whole : (c : SiteCall) (r : Run) → WholeRun r → WholeRun (granted c r .run)

@@ -8,12 +8,12 @@ use Rattle.rules.specs.Limits.{mostRecords}
 use Rattle.rules.specs.Questions.{Question, question, ask, isOn, index}
 use Rattle.rules.specs.Sets.{nobody}
 use Rattle.rules.specs.Site.{Item, message, request}
-use Rattle.rules.specs.Zone.{isMarked, sent, received}
+use Rattle.rules.specs.Zone.{hasCheckpoint, sent, received}
 use Rattle.rules.specs.declared.Local.{Local}
-use Rattle.local.specs.Asked.{askedAs, requestedBy, startedBy}
-use Rattle.local.specs.declared.Asked.{Asked}
+use Rattle.local.specs.Requesting.{requestingAs, requestedBy, startedBy}
+use Rattle.local.specs.declared.Requesting.{Requesting}
 use Rattle.channel.specs.Words.{itemOf, messageWord}
-use Rattle.channel.specs.Channels.{place, lenOf, isFree, pushed, popped, firstOf, allFree, requestedAll}
+use Rattle.channel.specs.Channels.{channelIndex, lenOf, isFree, pushed, popped, firstOf, allFree, requestedAll}
 use Rattle.channel.specs.declared.Channels.{Channels}
 use Rattle.run.specs.Layout.{sendRecord, receiveRecord, startRecord}
 use Rattle.run.specs.State.{runAs, countOf, zoneAt, putBack, isSound, hasStarted}
@@ -42,22 +42,22 @@ abbrev pub hasRoom : Run → Bool
 hasRoom r = ltb (r .head .records) mostRecords
 
 -- What the receipt of an item by the zone at index b, from the zone at index a, makes of the zone, with the requests that it sends.
-abbrev pub taken : ℕ → ℕ → Item → Local → Asked
-taken a b (message cars flag) z = askedAs (received a cars flag z) nobody nobody
-taken a b (request set) z = requestedBy b set z
+abbrev pub itemReceived : ℕ → ℕ → Item → Local → Requesting
+itemReceived a b (message cars flag) z = requestingAs (received a cars flag z) nobody nobody
+itemReceived a b (request set) z = requestedBy b set z
 
 -- The same of the first item on the channel from a to b.
-abbrev pub takenFirst : ℕ → ℕ → Local → Channels → Asked
-takenFirst a b z l = taken a b (itemOf (firstOf l (place a b))) z
+abbrev pub firstReceived : ℕ → ℕ → Local → Channels → Requesting
+firstReceived a b z l = itemReceived a b (itemOf (firstOf l (channelIndex a b))) z
 
 -- What a call asks behind 1, 5 and 6: of the zone z that acts, of the channels, and whether a recording has been started. Hand-over:
 -- 7, 8. Receipt: 9, 10. Start: 11, 10.
 abbrev pub ownQuestions : SiteCall → Local → Channels → Bool → List Question
 ownQuestions (Send from to cars) z l started =
-    question 7 (leb cars (z .stock)) ∷ question 8 (isFree l (place (index from) (index to))) ∷ []
+    question 7 (leb cars (z .stock)) ∷ question 8 (isFree l (channelIndex (index from) (index to))) ∷ []
 ownQuestions (Receive from to) z l started =
-    question 9 (not (eqb (lenOf l (place (index from) (index to))) 0))
-    ∷ question 10 (allFree l (index to) (takenFirst (index from) (index to) z l .to))
+    question 9 (not (eqb (lenOf l (channelIndex (index from) (index to))) 0))
+    ∷ question 10 (allFree l (index to) (firstReceived (index from) (index to) z l .to))
     ∷ []
 ownQuestions (Start zone) z l started =
     question 11 (not started) ∷ question 10 (allFree l (index zone) (startedBy (index zone) z .to)) ∷ []
@@ -65,14 +65,14 @@ ownQuestions (Start zone) z l started =
 -- What an accepted call makes of the zone z that acts, and of the channels.
 abbrev pub zoneAfter : SiteCall → Local → Channels → Local
 zoneAfter (Send from to cars) z l = sent cars z
-zoneAfter (Receive from to) z l = takenFirst (index from) (index to) z l .local
+zoneAfter (Receive from to) z l = firstReceived (index from) (index to) z l .local
 zoneAfter (Start zone) z l = startedBy (index zone) z .local
 
 abbrev pub channelsAfter : SiteCall → Local → Channels → Channels
-channelsAfter (Send from to cars) z l = pushed l (place (index from) (index to)) (messageWord (isMarked (z .checkpoint)) cars)
+channelsAfter (Send from to cars) z l = pushed l (channelIndex (index from) (index to)) (messageWord (hasCheckpoint (z .checkpoint)) cars)
 channelsAfter (Receive from to) z l =
-    let got = takenFirst (index from) (index to) z l in
-    requestedAll (popped l (place (index from) (index to))) (index to) (got .to) (got .carried)
+    let got = firstReceived (index from) (index to) z l in
+    requestedAll (popped l (channelIndex (index from) (index to))) (index to) (got .to) (got .carried)
 channelsAfter (Start zone) z l =
     let got = startedBy (index zone) z in
     requestedAll l (index zone) (got .to) (got .carried)

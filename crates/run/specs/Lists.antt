@@ -7,7 +7,7 @@ use lib.Dec.{eqb}
 use Rattle.rules.specs.Change.{cons-if}
 use Rattle.rules.specs.Questions.{index}
 use Rattle.rules.specs.Site.{Item, message, request, Call, send, receive, start}
-use Rattle.rules.specs.Zone.{isMarked}
+use Rattle.rules.specs.Zone.{hasCheckpoint}
 use Rattle.run.specs.Calls.{answer}
 use Rattle.run.specs.Model.{siteOf}
 use Rattle.run.specs.declared.Run.{Run}
@@ -48,7 +48,7 @@ firstMessage (request set ∷ xs) = []
 
 abbrev pub puts : ℕ → ℕ → SiteCall → Run → List Item
 puts i j (Send from to cars) r =
-    cond (eqb i (index from) && eqb j (index to)) (message cars (isMarked (siteOf r .zone i .checkpoint)) ∷ []) []
+    cond (eqb i (index from) && eqb j (index to)) (message cars (hasCheckpoint (siteOf r .zone i .checkpoint)) ∷ []) []
 puts i j (Receive from to) r = []
 puts i j (Start zone) r = []
 

@@ -47,11 +47,11 @@ abbrev pub putBack : Head → ℕ → Local → ℕ → Head
 putBack h i z records = record { opening = h .opening; records = records; zones = set (h .zones) i z }
 
 -- "no zone with more own events than there are records, every set naming only zones of the site": a zone's own part.
-unfoldable pub zoneSound : ℕ → ℕ → Local → Bool
-zoneSound count records z = leb (z .events) records && within (z .deps) count
+unfoldable pub localSound : ℕ → ℕ → Local → Bool
+localSound count records z = leb (z .events) records && within (z .deps) count
 
-unfoldable pub zonesSound : Head → Bool
-zonesSound h = allBelow (countOf h) (λ i. zoneSound (countOf h) (h .records) (zoneAt h i))
+unfoldable pub localsSound : Head → Bool
+localsSound h = allBelow (countOf h) (λ i. localSound (countOf h) (h .records) (zoneAt h i))
 
 -- "every set naming only zones of the site": the requests of a channel.
 abbrev pub setsWithin : ℕ → List Item → Bool
@@ -80,7 +80,7 @@ carsOnChannels count l = sumBelow (mostZones * mostZones) (λ k. cond (isChannel
 -- Question 1 over the parts that it looks at: neither saved values in checkpoints nor storage that the site does not have.
 unfoldable pub partsSound : Head → Channels → Bool
 partsSound h l =
-    isCount (countOf h) && leb (h .records) mostRecords && zonesSound h && channelsSound (termsOf h) l
+    isCount (countOf h) && leb (h .records) mostRecords && localsSound h && channelsSound (termsOf h) l
     && leb (stocks h + carsOnChannels (countOf h) l) mostCars
 
 abbrev pub isSound : Run → Bool

@@ -1,4 +1,4 @@
--- What one word more adds to the comparison of a channel; that empty channels are the same, and nothing is compared at a place that the
+-- What one word more adds to the comparison of a channel; that empty channels are the same, and nothing is compared at an index that the
 -- site has no channel at.
 use mathlib.Core.Path.{_≡_, refl, sym, _∙_, ap}
 use mathlib.Core.Bool.{Bool, true, false, _&&_, _||_, not, and-true, and-assoc}
@@ -11,9 +11,9 @@ use borrow.Author.Tests.{eq-eqb}
 use lib.Dec.{eqb}
 use lib.ListN.{length, getD, take}
 use Rattle.rules.specs.Below.{allBelow}
-use Rattle.channel.specs.Channels.{isChannel, place, wordsOn, lenOf}
+use Rattle.channel.specs.Channels.{isChannel, channelIndex, wordsOn, lenOf}
 use Rattle.channel.specs.declared.Channels.{Channels}
-use Rattle.channel.proofs.Places.{word-at, words-length, all-words, no-channel, no-channel-to}
+use Rattle.channel.proofs.Indices.{word-at, words-length, all-words, no-channel, no-channel-to}
 use Rattle.run.proofs.BelowLaws.{all-end}
 use Rattle.journal.specs.Writing.{sameWords, sameChannel}
 use Rattle.same.specs.InnerAt.{sameAt, sameFrom}
@@ -57,6 +57,6 @@ module _ (count : ℕ) (l m : Channels) where
   pub same-end : count ≤ 8 → allBelow 64 (sameAt count l m) ≡ allBelow (count * 8) (sameAt count l m)
   same-end h = all-end (count * 8) 64 (sameAt count l m) (omega arith) (λ i b d. rw (no-channel count i b))
 
-  pub same-to : (from : ℕ) → count ≤ 8 → sameFrom count l m from ≡ allBelow count (λ j. sameAt count l m (place from j))
+  pub same-to : (from : ℕ) → count ≤ 8 → sameFrom count l m from ≡ allBelow count (λ j. sameAt count l m (channelIndex from j))
   unfolding sameFrom
-  same-to from h = all-end count 8 (λ j. sameAt count l m (place from j)) h (λ j b d. rw (no-channel-to count from j b d))
+  same-to from h = all-end count 8 (λ j. sameAt count l m (channelIndex from j)) h (λ j b d. rw (no-channel-to count from j b d))

@@ -60,8 +60,8 @@ fn same_local(a: Local, b: Local) -> bool
 {
     let p = a.checkpoint;
     let q = b.checkpoint;
-    let marks = same_checkpoint(p, q);
-    (a.stock == b.stock) & (a.deps == b.deps) & (a.events == b.events) & marks
+    let checkpoints = same_checkpoint(p, q);
+    (a.stock == b.stock) & (a.deps == b.deps) & (a.events == b.events) & checkpoints
 }
 
 // Whether the zones of a site of `count` zones are the same. A site has at most 8.
@@ -111,7 +111,7 @@ fn same_channel(
     same
 }
 
-// One place for a channel: nothing is asked of a channel that the site does not have.
+// One index for a channel: nothing is asked of a channel that the site does not have.
 fn same_at(
     count: u8,
     a: &[u16; WORDS],
@@ -132,7 +132,7 @@ fn same_at(
     same_channel(a, alens, b, blens, k)
 }
 
-// The places for channels from one zone. Most channels are empty in both, so the lengths are looked at first.
+// The indices for channels from one zone. Most channels are empty in both, so the lengths are looked at first.
 fn same_from(
     count: u8,
     a: &[u16; WORDS],
@@ -150,7 +150,7 @@ fn same_from(
     let mut same = true;
     let mut to = 0;
     while to < count as usize {
-        let k = channel::place(from, to);
+        let k = channel::channel_index(from, to);
         let empty = (alens[k] == 0) & (blens[k] == 0);
         if !empty {
             same = same & same_at(count, a, alens, b, blens, k);

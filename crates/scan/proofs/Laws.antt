@@ -1,4 +1,4 @@
--- What one item more adds to the scan of a channel; that an empty channel adds nothing, nor a place that the site has no channel at.
+-- What one item more adds to the scan of a channel; that an empty channel adds nothing, nor an index that the site has no channel at.
 use mathlib.Core.Path.{_≡_, refl, sym, _∙_, ap}
 use mathlib.Core.Bool.{Bool, true, false, _&&_, _||_, not, cond, and-true, and-assoc}
 use mathlib.Core.List.{List, [], _∷_, map}
@@ -12,9 +12,9 @@ use lib.Pow.{pow-pos}
 use Rattle.rules.specs.Below.{allBelow, sumBelow}
 use Rattle.rules.specs.Sets.{within}
 use Rattle.channel.specs.Words.{itemOf, setIn, carsIn}
-use Rattle.channel.specs.Channels.{isChannel, place, lenOf, wordsOn, itemsOn}
+use Rattle.channel.specs.Channels.{isChannel, channelIndex, lenOf, wordsOn, itemsOn}
 use Rattle.channel.specs.declared.Channels.{Channels}
-use Rattle.channel.proofs.Places.{word-at, all-words, no-channel, no-channel-to}
+use Rattle.channel.proofs.Indices.{word-at, all-words, no-channel, no-channel-to}
 use Rattle.run.specs.State.{setsWithin, carsOf, channelSound}
 use Rattle.run.specs.declared.Terms.{Terms}
 use Rattle.run.proofs.BelowLaws.{all-end, sum-end}
@@ -93,10 +93,10 @@ module _ (t : Terms) (l : Channels) where
   pub cars-end : t .count ≤ 8 → sumBelow 64 (carsAt t l) ≡ sumBelow (t .count * 8) (carsAt t l)
   cars-end h = sum-end (t .count * 8) 64 (carsAt t l) (omega arith) (λ i b d. rw (no-channel (t .count) i b))
 
-  pub sound-to : (from : ℕ) → t .count ≤ 8 → soundFrom t l from ≡ allBelow (t .count) (λ j. soundAt t l (place from j))
+  pub sound-to : (from : ℕ) → t .count ≤ 8 → soundFrom t l from ≡ allBelow (t .count) (λ j. soundAt t l (channelIndex from j))
   unfolding soundFrom
-  sound-to from h = all-end (t .count) 8 (λ j. soundAt t l (place from j)) h (λ j b d. rw (no-channel-to (t .count) from j b d))
+  sound-to from h = all-end (t .count) 8 (λ j. soundAt t l (channelIndex from j)) h (λ j b d. rw (no-channel-to (t .count) from j b d))
 
-  pub cars-to : (from : ℕ) → t .count ≤ 8 → carsFrom t l from ≡ sumBelow (t .count) (λ j. carsAt t l (place from j))
+  pub cars-to : (from : ℕ) → t .count ≤ 8 → carsFrom t l from ≡ sumBelow (t .count) (λ j. carsAt t l (channelIndex from j))
   unfolding carsFrom
-  cars-to from h = sum-end (t .count) 8 (λ j. carsAt t l (place from j)) h (λ j b d. rw (no-channel-to (t .count) from j b d))
+  cars-to from h = sum-end (t .count) 8 (λ j. carsAt t l (channelIndex from j)) h (λ j b d. rw (no-channel-to (t .count) from j b d))

@@ -21,7 +21,7 @@ use Rattle.site_c.specs.declared.PlainHead.{PlainHead}
 use Rattle.site_c.specs.declared.PlainLocal.{PlainLocal}
 use Rattle.site_c.specs.declared.PlainReading.{PlainReading}
 use Rattle.site_c.specs.declared.PlainRun.{PlainRun}
-use Rattle.site_c.specs.declared.PlainTurn.{PlainTurn}
+use Rattle.site_c.specs.declared.PlainHeadAnswer.{PlainHeadAnswer}
 use Rattle.site_c.specs.declared.PlainWritten.{PlainWritten}
 use Rattle.run.specs.Calls.{answer}
 use Rattle.run.specs.Opening.{openCall, termsAs, openingAs}
@@ -54,7 +54,7 @@ localsOf zones = listBelow mostZones (λ i. localOf (plainAt zones i))
 unfoldable pub plainLocals : List Local → List PlainLocal
 plainLocals zones = listBelow mostZones (λ i. plainLocal (getD zones i noLocal))
 
--- Is every mark kind 0, 1 or 2, at all eight places?
+-- Is every mark kind 0, 1 or 2, at all eight indices?
 unfoldable pub areKinds : List PlainLocal → Bool
 areKinds zones = allBelow mostZones (λ i. leb (plainAt zones i .mark) 2)
 
@@ -95,7 +95,7 @@ abbrev pub plainAnswer : Answer → PlainAnswer
 plainAnswer a = record { refusal = a .refusal; run = plainRun (a .run) }
 
 -- The answer on the whole run, of what a call answers and leaves in the lent arrays.
-abbrev pub answerIn : PlainTurn → List ℕ → List ℕ → List ℕ → PlainAnswer
+abbrev pub answerIn : PlainHeadAnswer → List ℕ → List ℕ → List ℕ → PlainAnswer
 answerIn t items lens journal = record { refusal = t .refusal; run = plainIn (t .head) items lens journal }
 
 -- A mark kind above 2 is unsound: question 1 is answered no.

@@ -11,16 +11,16 @@ use lib.ListN.{set}
 use lib.Pow.{pow-mono}
 use Rattle.rules.specs.Limits.{mostRecords}
 use Rattle.rules.specs.Questions.{Question, question, ask, index, Among}
-use Rattle.rules.specs.Zone.{isMarked, sent}
+use Rattle.rules.specs.Zone.{hasCheckpoint, sent}
 use Rattle.rules.specs.declared.Local.{Local}
 use Rattle.rules.proofs.AskLaws.{AllYes, numbers, not-among, ask-cases, ask-both}
 use Rattle.channel.specs.Words.{itemOf, carsIn, setIn, messageWord}
-use Rattle.channel.specs.Channels.{channelsAs, isChannel, place, lenOf, pushed, popped, firstOf, firstFull, allFree, requestedAll}
+use Rattle.channel.specs.Channels.{channelsAs, isChannel, channelIndex, lenOf, pushed, popped, firstOf, firstFull, allFree, requestedAll}
 use Rattle.channel.specs.declared.Channels.{Channels}
 use Rattle.channel.proofs.View.{all-free-none}
-use Rattle.local.specs.Asked.{startedBy}
-use Rattle.local.specs.declared.Asked.{Asked}
-use Rattle.run.specs.Calls.{actor, isNamed, taken, ownQuestions, zoneAfter, channelsAfter, refused, granted, answer, takenFirst, recordOf}
+use Rattle.local.specs.Requesting.{startedBy}
+use Rattle.local.specs.declared.Requesting.{Requesting}
+use Rattle.run.specs.Calls.{actor, isNamed, itemReceived, ownQuestions, zoneAfter, channelsAfter, refused, granted, answer, firstReceived, recordOf}
 use Rattle.run.specs.State.{runAs, termsOf, partsSound, countOf, zoneAt, putBack, hasStarted}
 use Rattle.run.specs.declared.Answer.{Answer}
 use Rattle.run.specs.declared.Head.{Head}
@@ -28,7 +28,7 @@ use Rattle.run.specs.declared.Run.{Run}
 use Rattle.run.specs.declared.SiteCall.{SiteCall}
 use Rattle.run.specs.declared.SiteCall.the-variants.{Send, Receive, Start}
 use Rattle.run.specs.declared.Terms.{Terms}
-use Rattle.run.proofs.Facts.{channel-at, place-lt, sound-high, sound-events, sound-first, sound-room}
+use Rattle.run.proofs.Facts.{channel-at, channel-index-lt, sound-high, sound-events, sound-first, sound-room}
 use Rattle.run.proofs.Outcome.{pair, named-wider, own-nonzero}
 use Rattle.steps.specs.InnerEffect.{Effected, effectAs, unchanged, ownEffect, effect}
 use Rattle.steps.specs.InnerReady.{Stands, Ready, Fits}
@@ -70,8 +70,8 @@ ready-fits terms records (Receive from to) z l r e room =
     let m = ready-events terms records (index to) z l r (p .to) in (
       named-wider (terms .count) 8 (Receive from to) most e,
       omega arith,
-      ready-first terms records (index to) z l r (place (index from) (index to)) (p .to)
-          (place-lt (terms .count) (index from) (index to) most (p .from) (p .to))
+      ready-first terms records (index to) z l r (channelIndex (index from) (index to)) (p .to)
+          (channel-index-lt (terms .count) (index from) (index to) most (p .from) (p .to))
           (channel-at (terms .count) (index from) (index to) most (p .from) (p .to) (p .apart)),
     )
 ready-fits terms records (Start zone) z l r e room =
@@ -84,14 +84,14 @@ module _ (from to cars : ℕ) (z : Local) (l : Channels) (started : Bool) where
   unfolding ownEffect
   send-7 o g h = rw (g, lt-leb _ _ h)
 
-  pub send-8 : (k : ℕ) (o : Effect) → k ≡ place (index from) (index to) → o ≡ unchanged 8 z → cars ≤ z .stock → 16 ≤ lenOf l k
+  pub send-8 : (k : ℕ) (o : Effect) → k ≡ channelIndex (index from) (index to) → o ≡ unchanged 8 z → cars ≤ z .stock → 16 ≤ lenOf l k
       → record { effect = o; channels = l } ≡ ownEffect (Send from to cars) z l started
   unfolding ownEffect
   send-8 k o e g covers h = rw (g, le-leb _ _ covers, le-ltb _ _ (subst (λ (n : ℕ). 16 ≤ lenOf l n) e h))
 
-  -- Accepted: the message, with the flag of the sender's checkpoint, is pushed at the channel's place.
-  pub send-0 : (k word : ℕ) (flag : Bool) (zone : Local) (after : Channels) → k ≡ place (index from) (index to) → cars ≤ z .stock
-      → lenOf l k < 16 → flag ≡ isMarked (z .checkpoint) → word ≡ messageWord flag cars → after ≡ pushed l k word → zone ≡ sent cars z
+  -- Accepted: the message, with the flag of the sender's checkpoint, is pushed at the channel's index.
+  pub send-0 : (k word : ℕ) (flag : Bool) (zone : Local) (after : Channels) → k ≡ channelIndex (index from) (index to) → cars ≤ z .stock
+      → lenOf l k < 16 → flag ≡ hasCheckpoint (z .checkpoint) → word ≡ messageWord flag cars → after ≡ pushed l k word → zone ≡ sent cars z
       → record { effect = record { refusal = 0; zone = zone }; channels = after } ≡ ownEffect (Send from to cars) z l started
   unfolding ownEffect
   send-0 k word flag zone after e covers h f g p q = rw (q, p, g, f, e, le-leb _ _ covers, lt-ltb _ _ (subst (λ (n : ℕ). lenOf l n < 16) e h))
@@ -104,39 +104,39 @@ module _ (l : Channels) (from to full : ℕ) (e : full ≡ firstFull l from to) 
   pub none-full : full ≡ 0 → allFree l from to ≡ true
   none-full h = sym (all-free-none l from to) ∙ eq-eqb _ _ (sym e ∙ h)
 
-module _ (from to : ℕ) (z : Local) (l : Channels) (started : Bool) (k : ℕ) (e : k ≡ place (index from) (index to)) where
+module _ (from to : ℕ) (z : Local) (l : Channels) (started : Bool) (k : ℕ) (e : k ≡ channelIndex (index from) (index to)) where
   pub receive-9 : (o : Effect) → o ≡ unchanged 9 z → lenOf l k ≡ 0
       → record { effect = o; channels = l } ≡ ownEffect (Receive from to) z l started
   unfolding ownEffect
   receive-9 o g h = rw (g, eq-eqb _ _ (subst (λ (n : ℕ). lenOf l n ≡ 0) e h))
 
   -- The item that stands first makes `got` of the zone.
-  module _ (holds : lenOf l k ≢ 0) (got : Asked) (takes : got ≡ taken (index from) (index to) (itemOf (firstOf l k)) z) (full : ℕ)
+  module _ (holds : lenOf l k ≢ 0) (got : Requesting) (takes : got ≡ itemReceived (index from) (index to) (itemOf (firstOf l k)) z) (full : ℕ)
       (search : full ≡ firstFull l (index to) (got .to)) where
-    asked-full : full ≢ 0 → allFree l (index to) (takenFirst (index from) (index to) z l .to) ≡ false
-    asked-full h =
-        subst (λ (n : ℕ). allFree l (index to) (taken (index from) (index to) (itemOf (firstOf l n)) z .to) ≡ false) e
-        (subst (λ (g : Asked). allFree l (index to) (g .to) ≡ false) takes (some-full l (index to) (got .to) full search h))
+    targets-full : full ≢ 0 → allFree l (index to) (firstReceived (index from) (index to) z l .to) ≡ false
+    targets-full h =
+        subst (λ (n : ℕ). allFree l (index to) (itemReceived (index from) (index to) (itemOf (firstOf l n)) z .to) ≡ false) e
+        (subst (λ (g : Requesting). allFree l (index to) (g .to) ≡ false) takes (some-full l (index to) (got .to) full search h))
 
-    asked-free : full ≡ 0 → allFree l (index to) (takenFirst (index from) (index to) z l .to) ≡ true
-    asked-free h =
-        subst (λ (n : ℕ). allFree l (index to) (taken (index from) (index to) (itemOf (firstOf l n)) z .to) ≡ true) e
-        (subst (λ (g : Asked). allFree l (index to) (g .to) ≡ true) takes (none-full l (index to) (got .to) full search h))
+    targets-free : full ≡ 0 → allFree l (index to) (firstReceived (index from) (index to) z l .to) ≡ true
+    targets-free h =
+        subst (λ (n : ℕ). allFree l (index to) (itemReceived (index from) (index to) (itemOf (firstOf l n)) z .to) ≡ true) e
+        (subst (λ (g : Requesting). allFree l (index to) (g .to) ≡ true) takes (none-full l (index to) (got .to) full search h))
 
-    here : lenOf l (place (index from) (index to)) ≢ 0
+    here : lenOf l (channelIndex (index from) (index to)) ≢ 0
     here = subst (λ (n : ℕ). lenOf l n ≢ 0) e holds
 
     pub receive-10 : (o : Effect) → o ≡ unchanged 10 z → full ≢ 0
         → record { effect = o; channels = l } ≡ ownEffect (Receive from to) z l started
     unfolding ownEffect
-    receive-10 o g h = rw (g, ne-eqb _ _ here, asked-full h)
+    receive-10 o g h = rw (g, ne-eqb _ _ here, targets-full h)
 
     -- Accepted: the item leaves its channel, and the requests join theirs.
     pub receive-0 : (popping after : Channels) → full ≡ 0 → popping ≡ popped l k
         → after ≡ requestedAll popping (index to) (got .to) (got .carried)
         → record { effect = record { refusal = 0; zone = got .local }; channels = after } ≡ ownEffect (Receive from to) z l started
     unfolding ownEffect
-    receive-0 popping after h p q = rw (q, p, takes, e, ne-eqb _ _ here, asked-free h)
+    receive-0 popping after h p q = rw (q, p, takes, e, ne-eqb _ _ here, targets-free h)
 
 module _ (zone : ℕ) (z : Local) (l : Channels) (started : Bool) where
   pub start-11 : (o : Effect) → o ≡ unchanged 11 z → started ≡ true
@@ -144,19 +144,19 @@ module _ (zone : ℕ) (z : Local) (l : Channels) (started : Bool) where
   unfolding ownEffect
   start-11 o g h = rw (g, h)
 
-  module _ (first : started ≡ false) (got : Asked) (starts : got ≡ startedBy (index zone) z) (full : ℕ)
+  module _ (first : started ≡ false) (got : Requesting) (starts : got ≡ startedBy (index zone) z) (full : ℕ)
       (search : full ≡ firstFull l (index zone) (got .to)) where
     pub start-10 : (o : Effect) → o ≡ unchanged 10 z → full ≢ 0 → record { effect = o; channels = l } ≡ ownEffect (Start zone) z l started
     unfolding ownEffect
     start-10 o g h =
-        rw (g, first, subst (λ (g : Asked). allFree l (index zone) (g .to) ≡ false) starts (some-full l (index zone) (got .to) full search h))
+        rw (g, first, subst (λ (g : Requesting). allFree l (index zone) (g .to) ≡ false) starts (some-full l (index zone) (got .to) full search h))
 
     -- Accepted: the requests join their channels.
     pub start-0 : (after : Channels) → full ≡ 0 → after ≡ requestedAll l (index zone) (got .to) (got .carried)
         → record { effect = record { refusal = 0; zone = got .local }; channels = after } ≡ ownEffect (Start zone) z l started
     unfolding ownEffect
     start-0 after h q =
-        rw (q, starts, first, subst (λ (g : Asked). allFree l (index zone) (g .to) ≡ true) starts (none-full l (index zone) (got .to) full search h))
+        rw (q, starts, first, subst (λ (g : Requesting). allFree l (index zone) (g .to) ≡ true) starts (none-full l (index zone) (got .to) full search h))
 
 -- Behind question 1, 5 and 6 are asked of every call alike.
 module _ (c : SiteCall) (terms : Terms) (records : ℕ) (z : Local) (l : Channels) (started : Bool) where

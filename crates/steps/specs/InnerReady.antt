@@ -4,7 +4,7 @@ use mathlib.Core.Bool.{true}
 use Prim.Native.Nat.{ℕ, _+_, _<_, _≤_}
 use Rattle.rules.specs.Questions.{index, isOn}
 use Rattle.rules.specs.declared.Local.{Local}
-use Rattle.channel.specs.Channels.{place, lenOf, firstOf}
+use Rattle.channel.specs.Channels.{channelIndex, lenOf, firstOf}
 use Rattle.channel.specs.Words.{itemOf, carsIn, setIn}
 use Rattle.channel.specs.declared.Channels.{Channels}
 use Rattle.run.specs.Calls.{isPair}
@@ -30,7 +30,7 @@ abbrev pub Fits : SiteCall → Local → Channels → Type 0
 Fits (Send from to cars) z l = (isPair 8 from to ≡ true) × (z .events < 1000)
 Fits (Receive from to) z l =
     (isPair 8 from to ≡ true) × (z .events < 1000)
-    × (0 < lenOf l (place (index from) (index to))
-    → (z .stock + carsIn (itemOf (firstOf l (place (index from) (index to)))) ≤ 65535)
-    × (setIn (itemOf (firstOf l (place (index from) (index to)))) < 256))
+    × (0 < lenOf l (channelIndex (index from) (index to))
+    → (z .stock + carsIn (itemOf (firstOf l (channelIndex (index from) (index to)))) ≤ 65535)
+    × (setIn (itemOf (firstOf l (channelIndex (index from) (index to)))) < 256))
 Fits (Start zone) z l = isOn 8 zone ≡ true

@@ -6,11 +6,11 @@ use Prim.Native.Nat.{ℕ}
 use Rattle.rules.specs.declared.Saved.{Saved}
 use Rattle.rules.specs.declared.Checkpoint.{Checkpoint}
 use Rattle.rules.specs.declared.Checkpoint.the-variants.{None, Mutable, Permanent}
-use Rattle.local.specs.Asked.{requestedBy, startedBy}
+use Rattle.local.specs.Requesting.{requestedBy, startedBy}
 use Rattle.rules.specs.Questions.{isCount, isOn}
 use Rattle.zone.specs.Zone.{
   isOther,
-  isSound,
+  isZoneSound,
   openZone,
   sendStep,
   receiveStep,
@@ -40,8 +40,8 @@ expectations (r ∷ rs) = r .expected ∷ expectations rs
 
 -- A zone: its number, the zone count, its stock, dependency set, own events and checkpoint.
 abbrev pub zone : ℕ → ℕ → ℕ → ℕ → ℕ → Checkpoint → Zone
-zone number count stock deps events mark =
-    record { number = number; count = count; stock = stock; deps = deps; events = events; checkpoint = mark }
+zone number count stock deps events checkpoint =
+    record { number = number; count = count; stock = stock; deps = deps; events = events; checkpoint = checkpoint }
 
 abbrev pub saved : ℕ → ℕ → Saved
 saved stock events = record { stock = stock; events = events }
@@ -50,7 +50,7 @@ saved stock events = record { stock = stock; events = events }
 abbrev pub opens : Opening → ℕ → Zone → Row
 opens o n z = record { answer = opening o; expected = opening (record { refusal = n; zone = z }) }
 
--- A step, with the refusal's number, the zone, the flag, the zones to be asked and the set carried.
+-- A step, with the refusal's number, the zone, the flag, the request targets and the set carried.
 abbrev pub gives : Step → ℕ → Zone → Bool → ℕ → ℕ → Row
 gives s n z flag to carried = record {
   answer = step s;
@@ -67,14 +67,14 @@ table =
     -- A zone whose number is not on the site.
     ∷ opens (openZone 3 0 5) 5 (zone 1 2 0 1 0 None)
     ∷ opens (openZone 3 4 5) 5 (zone 1 2 0 1 0 None)
-    -- Case B. Zone 1, which heard of zone 2, starts: it asks zone 2, carrying {1, 2}; then it sends 2 cars, flagged.
+    -- Case B. Zone 1, which heard of zone 2, starts: it sends zone 2 a request, carrying {1, 2}; then it sends 2 cars, flagged.
     ∷ gives (startStep (zone 1 3 11 3 1 None)) 0 (zone 1 3 11 3 1 (Permanent (saved 11 1))) false 2 3
     ∷ gives (sendStep (zone 1 3 11 3 1 (Permanent (saved 11 1))) 3 2) 0 (zone 1 3 9 3 2 (Permanent (saved 11 1))) true 0 0
     -- Zone 3 receives them: a mutable checkpoint of stock 9 and 1 event, before the stock rises.
     ∷ gives (receiveStep (zone 3 3 9 4 1 None) 1 2 true) 0 (zone 3 3 11 4 2 (Mutable (saved 9 1))) false 0 0
-    -- Zone 2, which heard of zone 3, takes the request of zone 1: it asks zone 3, carrying {1, 2, 3}.
+    -- Zone 2, which heard of zone 3, takes the request of zone 1: it sends zone 3 a request, carrying {1, 2, 3}.
     ∷ gives (requestStep (zone 2 3 10 6 2 None) 3) 0 (zone 2 3 10 6 2 (Permanent (saved 10 2))) false 4 7
-    -- Zone 3 takes the request of zone 2: permanent with stock 9 and 1 event, and nobody is asked.
+    -- Zone 3 takes the request of zone 2: permanent with stock 9 and 1 event, and no request is sent.
     ∷ gives (requestStep (zone 3 3 11 4 2 (Mutable (saved 9 1))) 7) 0 (zone 3 3 11 4 2 (Permanent (saved 9 1))) false 0 0
     -- A permanent checkpoint drops a request.
     ∷ gives (requestStep (zone 2 3 10 6 2 (Permanent (saved 7 1))) 1) 0 (zone 2 3 10 6 2 (Permanent (saved 7 1))) false 0 0
@@ -96,5 +96,5 @@ table =
 
 -- The two sides of every row are equal.
 pub edges : answers table ≡ expectations table
-unfolding isCount isOn isOther isSound openZone sendStep receiveStep requestStep startStep requestedBy startedBy
+unfolding isCount isOn isOther isZoneSound openZone sendStep receiveStep requestStep startStep requestedBy startedBy
 edges = refl

@@ -7,7 +7,7 @@ use lib.Dec.{eqb, leb}
 use Rattle.rules.specs.Sets.{within}
 use Rattle.rules.specs.Questions.{isCount, isOn}
 use Rattle.rules.proofs.QuestionLaws.{count-high, on-low, on-high}
-use Rattle.zone.specs.Zone.{isOther, isSound}
+use Rattle.zone.specs.Zone.{isOther, isZoneSound}
 use Rattle.zone.specs.declared.Zone.{Zone}
 
 -- A zone's number on a site is 1 to 8.
@@ -17,8 +17,8 @@ on-site count k h g =
     let m = on-high count k g in
     (on-low count k g, omega arith)
 
-sound-count : (z : Zone) → isSound z ≡ true → (isCount (z .count) ≡ true) × (isOn (z .count) (z .number) ≡ true)
-unfolding isSound
+sound-count : (z : Zone) → isZoneSound z ≡ true → (isCount (z .count) ≡ true) × (isOn (z .count) (z .number) ≡ true)
+unfolding isZoneSound
 sound-count z h =
     let a = isCount (z .count) in
     let b = isOn (z .count) (z .number) in
@@ -28,10 +28,10 @@ sound-count z h =
     and-eq-true-iff a b .0 (and-eq-true-iff (a && b) d .0 (and-eq-true-iff (a && b && d) e .0 g .0) .0)
 
 -- The number of a sound zone, and that of another zone of its site.
-pub own-number : (z : Zone) → isSound z ≡ true → (1 ≤ z .number) × (z .number ≤ 8)
+pub own-number : (z : Zone) → isZoneSound z ≡ true → (1 ≤ z .number) × (z .number ≤ 8)
 own-number z h = on-site _ _ (sound-count z h .0) (sound-count z h .1)
 
-pub other-number : (z : Zone) (k : ℕ) → isSound z ≡ true → isOther z k ≡ true → (1 ≤ k) × (k ≤ 8)
+pub other-number : (z : Zone) (k : ℕ) → isZoneSound z ≡ true → isOther z k ≡ true → (1 ≤ k) × (k ≤ 8)
 unfolding isOther
 other-number z k h g =
     on-site _ _ (sound-count z h .0) (and-eq-true-iff (isOn (z .count) k) (not (eqb k (z .number))) .0 g .0)

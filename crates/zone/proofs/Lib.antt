@@ -1,3 +1,3 @@
 pub mod Laws
 pub mod Examples
-pub mod AskedZones
+pub mod Targets

@@ -7,10 +7,10 @@ use lib.Count.{trailingZeros}
 use Rattle.rules.specs.Limits.{mostZones, mostCars, mostRecords}
 use Rattle.rules.specs.Questions.{question, ask, index, isCount, isOn}
 use Rattle.rules.specs.Sets.{nobody, within}
-use Rattle.rules.specs.Zone.{isMarked, opened, sent, received}
+use Rattle.rules.specs.Zone.{hasCheckpoint, opened, sent, received}
 use Rattle.rules.specs.declared.Local.{Local}
-use Rattle.local.specs.Asked.{requestedBy, startedBy}
-use Rattle.local.specs.declared.Asked.{Asked}
+use Rattle.local.specs.Requesting.{requestedBy, startedBy}
+use Rattle.local.specs.declared.Requesting.{Requesting}
 use Rattle.zone.specs.declared.Zone.{Zone}
 use Rattle.zone.specs.declared.Step.{Step}
 use Rattle.zone.specs.declared.Opening.{Opening}
@@ -35,8 +35,8 @@ isOther z zone = isOn (z .count) zone && not (eqb zone (z .number))
 
 -- Question 1: "Its state is sound when zone number and count are valid, its heard set names only zones of the site, the stock is at
 -- most 65,535 and own events at most 1,000."
-unfoldable pub isSound : Zone → Bool
-isSound z =
+unfoldable pub isZoneSound : Zone → Bool
+isZoneSound z =
     isCount (z .count) && isOn (z .count) (z .number) && within (z .deps) (z .count) && leb (z .stock) mostCars
     && leb (z .events) mostRecords
 
@@ -64,36 +64,36 @@ abbrev pub accepted : Zone → Bool → ℕ → ℕ → Step
 accepted z flag to carried = record { refusal = 0; zone = z; flag = flag; to = to; carried = carried }
 
 -- An accepted step that may send requests.
-abbrev pub asking : Zone → Asked → Step
-asking z a = accepted (withLocal z (a .local)) false (a .to) (a .carried)
+abbrev pub requestingStep : Zone → Requesting → Step
+requestingStep z a = accepted (withLocal z (a .local)) false (a .to) (a .carried)
 
 -- "Send: 1, 5, 6, 7." It names the receiver and answers the flag ("marked bit").
 unfoldable pub sendStep : Zone → ℕ → ℕ → Step
 sendStep z to cars =
-    ask (question 1 (isSound z) ∷ question 5 (isOther z to) ∷ question 6 (hasRoom z) ∷ question 7 (leb cars (z .stock)) ∷ [])
+    ask (question 1 (isZoneSound z) ∷ question 5 (isOther z to) ∷ question 6 (hasRoom z) ∷ question 7 (leb cars (z .stock)) ∷ [])
     (refused z)
-    (accepted (withLocal z (sent cars (localOf z))) (isMarked (z .checkpoint)) nobody nobody)
+    (accepted (withLocal z (sent cars (localOf z))) (hasCheckpoint (z .checkpoint)) nobody nobody)
 
 -- "Take a hand-over: 1, 5, 6, 20." It names the sender.
 unfoldable pub receiveStep : Zone → ℕ → ℕ → Bool → Step
 receiveStep z from cars flag =
-    ask (question 1 (isSound z) ∷ question 5 (isOther z from) ∷ question 6 (hasRoom z) ∷ question 20 (leb (z .stock + cars) mostCars) ∷ [])
+    ask (question 1 (isZoneSound z) ∷ question 5 (isOther z from) ∷ question 6 (hasRoom z) ∷ question 20 (leb (z .stock + cars) mostCars) ∷ [])
     (refused z)
     (accepted (withLocal z (received (index from) cars flag (localOf z))) false nobody nobody)
 
 -- "Take a request: 1, 5, its set's zones being on the site."
 unfoldable pub requestStep : Zone → ℕ → Step
 requestStep z set =
-    ask (question 1 (isSound z) ∷ question 5 (within set (z .count)) ∷ [])
+    ask (question 1 (isZoneSound z) ∷ question 5 (within set (z .count)) ∷ [])
     (refused z)
-    (asking z (requestedBy (index (z .number)) set (localOf z)))
+    (requestingStep z (requestedBy (index (z .number)) set (localOf z)))
 
 -- "Start: 1, 11." There "11 means unmarked".
 unfoldable pub startStep : Zone → Step
 startStep z =
-    ask (question 1 (isSound z) ∷ question 11 (not (isMarked (z .checkpoint))) ∷ [])
+    ask (question 1 (isZoneSound z) ∷ question 11 (not (hasCheckpoint (z .checkpoint))) ∷ [])
     (refused z)
-    (asking z (startedBy (index (z .number)) (localOf z)))
+    (requestingStep z (startedBy (index (z .number)) (localOf z)))
 
 -- The number of the zone to be sent to next: the lowest of the set; 0 where the set is empty.
 unfoldable pub nextOf : ℕ → ℕ

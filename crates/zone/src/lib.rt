@@ -6,7 +6,7 @@ ghost use Rattle.rules.specs.Limits.{mostZones};
 ghost use Rattle.rules.specs.Sets.{size};
 ghost use Rattle.zone.specs.Zone.{
   isOther,
-  isSound,
+  isZoneSound,
   localOf,
   withLocal,
   openZone,
@@ -110,7 +110,7 @@ impl Zone {
     }
 
     fn is_sound(self) -> bool
-        ensures { λ r. ⌜ r ≡ isSound self ⌝ }
+        ensures { λ r. ⌜ r ≡ isZoneSound self ⌝ }
     {
         let a = questions::is_count(self.count);
         let b = questions::is_on(self.count, self.number);
@@ -144,8 +144,8 @@ impl Zone {
         if self.stock < cars as u16 {
             return refused(self, 7);
         }
-        let mark = self.checkpoint;
-        let flag = local::is_marked(mark);
+        let checkpoint = self.checkpoint;
+        let flag = local::has_checkpoint(checkpoint);
         let next = local::send(self.local(), cars);
         self = self.with_local(next);
         Step {
@@ -194,15 +194,15 @@ impl Zone {
         if !questions::is_within(set, self.count) {
             return refused(self, 5);
         }
-        let asked = local::request(self.local(), self.number - 1, set);
-        let next = asked.local;
+        let requesting = local::request(self.local(), self.number - 1, set);
+        let next = requesting.local;
         self = self.with_local(next);
         Step {
             refusal: 0,
             zone: self,
             flag: false,
-            to: asked.to,
-            carried: asked.carried,
+            to: requesting.to,
+            carried: requesting.carried,
         }
     }
 
@@ -213,19 +213,19 @@ impl Zone {
         if !self.is_sound() {
             return refused(self, 1);
         }
-        let mark = self.checkpoint;
-        if local::is_marked(mark) {
+        let checkpoint = self.checkpoint;
+        if local::has_checkpoint(checkpoint) {
             return refused(self, 11);
         }
-        let asked = local::start(self.local(), self.number - 1);
-        let next = asked.local;
+        let requesting = local::start(self.local(), self.number - 1);
+        let next = requesting.local;
         self = self.with_local(next);
         Step {
             refusal: 0,
             zone: self,
             flag: false,
-            to: asked.to,
-            carried: asked.carried,
+            to: requesting.to,
+            carried: requesting.carried,
         }
     }
 }

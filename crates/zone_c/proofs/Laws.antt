@@ -6,10 +6,10 @@ use lib.Dec.{leb, ltb, eqb}
 use borrow.Author.Tests.{eqb-true}
 use Rattle.rules.specs.Limits.{mostCars}
 use Rattle.rules.specs.Sets.{within}
-use Rattle.rules.specs.Zone.{isMarked}
+use Rattle.rules.specs.Zone.{hasCheckpoint}
 use Rattle.rules.specs.declared.Checkpoint.{Checkpoint}
 use Rattle.rules.specs.declared.Checkpoint.the-variants.{None, Mutable, Permanent}
-use Rattle.zone.specs.Zone.{isSound, isOther, hasRoom, refused, sendStep, receiveStep, requestStep, startStep}
+use Rattle.zone.specs.Zone.{isZoneSound, isOther, hasRoom, refused, sendStep, receiveStep, requestStep, startStep}
 use Rattle.zone.specs.declared.Step.{Step}
 use Rattle.zone.specs.declared.Zone.{Zone}
 use Rattle.zone_c.specs.Plain.{markOf, zoneOf, kindOf, savedOf, plainOf, plainStep, answerPlain, sendPlain, receivePlain, requestPlain, startPlain}
@@ -53,20 +53,20 @@ told-if z false s n h = told-refused z n
 module _ (z : Zone) where
   send-told : (to cars : ℕ) → Told z (sendStep z to cars)
   unfolding sendStep
-  send-told to cars = told-if z (isSound z) _ 1 (told-if z (isOther z to) _ 5 (told-if z (hasRoom z) _ 6 (told-if z (leb cars (z .stock)) _ 7 (told-accepted z _ refl))))
+  send-told to cars = told-if z (isZoneSound z) _ 1 (told-if z (isOther z to) _ 5 (told-if z (hasRoom z) _ 6 (told-if z (leb cars (z .stock)) _ 7 (told-accepted z _ refl))))
 
   receive-told : (from cars : ℕ) (flag : Bool) → Told z (receiveStep z from cars flag)
   unfolding receiveStep
   receive-told from cars flag =
-      told-if z (isSound z) _ 1 (told-if z (isOther z from) _ 5 (told-if z (hasRoom z) _ 6 (told-if z (leb (z .stock + cars) mostCars) _ 20 (told-accepted z _ refl))))
+      told-if z (isZoneSound z) _ 1 (told-if z (isOther z from) _ 5 (told-if z (hasRoom z) _ 6 (told-if z (leb (z .stock + cars) mostCars) _ 20 (told-accepted z _ refl))))
 
   request-told : (set : ℕ) → Told z (requestStep z set)
   unfolding requestStep
-  request-told set = told-if z (isSound z) _ 1 (told-if z (within set (z .count)) _ 5 (told-accepted z _ refl))
+  request-told set = told-if z (isZoneSound z) _ 1 (told-if z (within set (z .count)) _ 5 (told-accepted z _ refl))
 
   start-told : Told z (startStep z)
   unfolding startStep
-  start-told = told-if z (isSound z) _ 1 (told-if z (not (isMarked (z .checkpoint))) _ 11 (told-accepted z _ refl))
+  start-told = told-if z (isZoneSound z) _ 1 (told-if z (not (hasCheckpoint (z .checkpoint))) _ 11 (told-accepted z _ refl))
 
   pub send-plain : (to cars : ℕ) → sendPlain (plainOf z) to cars ≡ plainStep (sendStep z to cars)
   unfolding sendPlain

@@ -3,12 +3,10 @@ use mathlib.Core.Path.{_≡_, refl, _∙_, ap}
 use mathlib.Core.List.{List, [], _∷_, map}
 use Prim.Native.Nat.{ℕ}
 use Rattle.zone.specs.Zone.{openZone}
-use Rattle.zone.specs.declared.Step.{Step}
 use Rattle.zone.specs.declared.Zone.{Zone}
 use Rattle.zone_c.specs.Plain.{zoneOf, plainOf, plainStep, openPlain}
 use Rattle.zone_c.specs.Lists.{ZoneCall, Send, Receive, Request, Start, answer, callPlain, answers, answersPlain, after, afterPlain}
 use Rattle.zone_c.specs.declared.PlainStep.{PlainStep}
-use Rattle.zone_c.specs.declared.PlainZone.{PlainZone}
 use Rattle.zone_c.proofs.Laws.{zone-back, send-plain, receive-plain, request-plain, start-plain}
 
 pub call-plain : (c : ZoneCall) (z : Zone) → callPlain c (plainOf z) ≡ plainStep (answer c z)

@@ -93,20 +93,20 @@ fn zone_of(p: PlainZone) -> Zone
     }
 }
 
-pub fn kind_of(mark: Checkpoint) -> u8
-    ensures { λ r. ⌜ r ≡ kindOf mark ⌝ }
+pub fn kind_of(checkpoint: Checkpoint) -> u8
+    ensures { λ r. ⌜ r ≡ kindOf checkpoint ⌝ }
 {
-    match mark {
+    match checkpoint {
         Checkpoint::None => 0,
         Checkpoint::Mutable(_) => 1,
         Checkpoint::Permanent(_) => 2,
     }
 }
 
-pub fn saved_of(mark: Checkpoint) -> PlainSaved
-    ensures { λ r. ⌜ r ≡ savedOf mark ⌝ }
+pub fn saved_of(checkpoint: Checkpoint) -> PlainSaved
+    ensures { λ r. ⌜ r ≡ savedOf checkpoint ⌝ }
 {
-    match mark {
+    match checkpoint {
         Checkpoint::None => PlainSaved {
             stock: 0,
             events: 0,
@@ -125,9 +125,9 @@ pub fn saved_of(mark: Checkpoint) -> PlainSaved
 fn plain_of(z: Zone) -> PlainZone
     ensures { λ r. ⌜ r ≡ plainOf z ⌝ }
 {
-    let mark = z.checkpoint;
-    let kind = kind_of(mark);
-    let saved = saved_of(mark);
+    let checkpoint = z.checkpoint;
+    let kind = kind_of(checkpoint);
+    let saved = saved_of(checkpoint);
     PlainZone {
         number: z.number,
         count: z.count,

@@ -72,7 +72,7 @@ pub struct PlainHead {
 
 #[repr(C)]
 #[derive(Clone, Copy, Debug, PartialEq, Eq)]
-pub struct PlainTurn {
+pub struct PlainHeadAnswer {
     pub head: PlainHead,
     pub refusal: u8,
 }
@@ -88,12 +88,12 @@ impl PlainRun {
     }
 
     /// Stores what a call handed back beside the lent arrays, and gives the refusal.
-    fn turn(&mut self, turn: PlainTurn) -> u8 {
-        self.count = turn.head.count;
-        self.records = turn.head.records;
-        self.zones = turn.head.zones;
-        self.opening = turn.head.opening;
-        turn.refusal
+    fn store(&mut self, answer: PlainHeadAnswer) -> u8 {
+        self.count = answer.head.count;
+        self.records = answer.head.records;
+        self.zones = answer.head.zones;
+        self.opening = answer.head.opening;
+        answer.refusal
     }
 }
 
@@ -127,7 +127,7 @@ const _: () = assert!(size_of::<PlainStep>() == 16);
 const _: () = assert!(size_of::<PlainLocal>() == 10);
 const _: () = assert!(size_of::<PlainRun>() == 4_212);
 const _: () = assert!(size_of::<PlainHead>() == 100);
-const _: () = assert!(size_of::<PlainTurn>() == 102);
+const _: () = assert!(size_of::<PlainHeadAnswer>() == 102);
 const _: () = assert!(size_of::<PlainAnswer>() == 4_214);
 const _: () = assert!(size_of::<PlainReading>() == 4_232);
 const _: () = assert!(size_of::<PlainWritten>() == 24);
@@ -154,7 +154,7 @@ mod raw {
             from: u8,
             to: u8,
             cars: u8,
-        ) -> PlainTurn;
+        ) -> PlainHeadAnswer;
         pub fn site_receive(
             head: PlainHead,
             items: *mut u16,
@@ -162,14 +162,14 @@ mod raw {
             journal: *mut u16,
             from: u8,
             to: u8,
-        ) -> PlainTurn;
+        ) -> PlainHeadAnswer;
         pub fn site_start(
             head: PlainHead,
             items: *mut u16,
             lens: *mut u8,
             journal: *mut u16,
             zone: u8,
-        ) -> PlainTurn;
+        ) -> PlainHeadAnswer;
         pub fn site_record(
             head: PlainHead,
             items: *const u16,
@@ -244,20 +244,20 @@ macro_rules! lent {
 
 pub fn site_send(run: &mut PlainRun, from: u8, to: u8, cars: u8) -> u8 {
     let (items, lens, journal) = lent!(run);
-    let turn = unsafe { raw::site_send(run.head(), items, lens, journal, from, to, cars) };
-    run.turn(turn)
+    let answer = unsafe { raw::site_send(run.head(), items, lens, journal, from, to, cars) };
+    run.store(answer)
 }
 
 pub fn site_receive(run: &mut PlainRun, from: u8, to: u8) -> u8 {
     let (items, lens, journal) = lent!(run);
-    let turn = unsafe { raw::site_receive(run.head(), items, lens, journal, from, to) };
-    run.turn(turn)
+    let answer = unsafe { raw::site_receive(run.head(), items, lens, journal, from, to) };
+    run.store(answer)
 }
 
 pub fn site_start(run: &mut PlainRun, zone: u8) -> u8 {
     let (items, lens, journal) = lent!(run);
-    let turn = unsafe { raw::site_start(run.head(), items, lens, journal, zone) };
-    run.turn(turn)
+    let answer = unsafe { raw::site_start(run.head(), items, lens, journal, zone) };
+    run.store(answer)
 }
 
 pub fn site_record(run: &PlainRun, out: &mut [u8]) -> PlainWritten {

@@ -90,9 +90,9 @@ uint64_t header_answer_sum(const cut_answer *answer)
     return add_run(add(0, answer->refusal), &answer->run);
 }
 
-uint64_t header_turn_sum(const cut_turn *turn)
+uint64_t header_head_answer_sum(const cut_head_answer *answer)
 {
-    return add_head(add(0, turn->refusal), &turn->head);
+    return add_head(add(0, answer->refusal), &answer->head);
 }
 
 uint64_t header_reading_sum(const cut_reading *reading)

@@ -2,7 +2,7 @@
 //! the library and back, and sums over the fields of the structs by the names that C has.
 
 use crate::ffi::{
-    PlainAnswer, PlainOpening, PlainReading, PlainRun, PlainStep, PlainTurn, PlainWritten,
+    PlainAnswer, PlainHeadAnswer, PlainOpening, PlainReading, PlainRun, PlainStep, PlainWritten,
 };
 
 mod raw {
@@ -18,7 +18,7 @@ mod raw {
         pub fn header_opening_sum(opening: *const PlainOpening) -> u64;
         pub fn header_step_sum(step: *const PlainStep) -> u64;
         pub fn header_answer_sum(answer: *const PlainAnswer) -> u64;
-        pub fn header_turn_sum(turn: *const PlainTurn) -> u64;
+        pub fn header_head_answer_sum(answer: *const PlainHeadAnswer) -> u64;
         pub fn header_reading_sum(reading: *const PlainReading) -> u64;
         pub fn header_written_sum(written: *const PlainWritten) -> u64;
     }
@@ -69,7 +69,7 @@ summed! {
     PlainOpening => header_opening_sum,
     PlainStep => header_step_sum,
     PlainAnswer => header_answer_sum,
-    PlainTurn => header_turn_sum,
+    PlainHeadAnswer => header_head_answer_sum,
     PlainReading => header_reading_sum,
     PlainWritten => header_written_sum,
 }

@@ -1,8 +1,8 @@
 //! The C headers name the same fields as the structs that the proved code is called with.
 
 use differential::ffi::{
-    self, PlainAnswer, PlainOpening, PlainReading, PlainRun, PlainSaved, PlainStep, PlainTurn,
-    PlainWritten, PlainZone,
+    self, PlainAnswer, PlainHeadAnswer, PlainOpening, PlainReading, PlainRun, PlainSaved,
+    PlainStep, PlainWritten, PlainZone,
 };
 use differential::header::Summed;
 use differential::plain::ZEROS;
@@ -113,8 +113,8 @@ fn the_site_has_the_same_fields() {
         let answer = PlainAnswer { refusal, run };
         assert_eq!(answer.sum(), add_run(add(0, refusal), &run));
         let head = run.head();
-        let turn = PlainTurn { refusal, head };
-        assert_eq!(turn.sum(), add_head(add(0, refusal), &run));
+        let answer = PlainHeadAnswer { refusal, head };
+        assert_eq!(answer.sum(), add_head(add(0, refusal), &run));
         let position = usize::from(word(random));
         let reading = PlainReading {
             refusal,

@@ -10,7 +10,7 @@ use lib.Count.{trailingZeros, trailing-le}
 use lib.ListN.{getD}
 use Rattle.rules.specs.Sets.{members}
 use Rattle.rules.proofs.Members.{members-step, members-zero, lowest-lt}
-use Rattle.channel.specs.Channels.{channelsAs, place, fullAmong, firstFull}
+use Rattle.channel.specs.Channels.{channelsAs, channelIndex, fullAmong, firstFull}
 use Rattle.channel.proofs.first_full.Statement.{statement}
 use Rattle.channel.proofs.first_full.Tie as tie
 
@@ -31,8 +31,8 @@ loop-holds c = (c .fits .to .fits, λ items. refl)
 cast-j : tie.Need-cast-j Inv-loop μ-loop
 cast-j c = omega (arith, trailing-le 8 (c .before .loop .rest))
 
-place-requires : tie.Need-place-requires Inv-loop μ-loop
-place-requires c κs =
+channel-index-requires : tie.Need-channel-index-requires Inv-loop μ-loop
+channel-index-requires c κs =
     let l = c .before .loop in
     let h = lowest-lt (l .rest) (l .inv .0) (omega arith) in
     (omega arith, omega arith)
@@ -56,8 +56,8 @@ returns c =
     let b = looped (c .before) in
     let l = b .loop in
     let a = b .before .args in
-    let n = getD (a .lens .now) (place (a .from) (trailingZeros 8 (l .rest))) 0 in
-    let h : 16 ≤ n = omega (arith, ap (λ (k : ℕ). getD (a .lens .now) k 0) (c .before .before .place .ensures .0)) in
+    let n = getD (a .lens .now) (channelIndex (a .from) (trailingZeros 8 (l .rest))) 0 in
+    let h : 16 ≤ n = omega (arith, ap (λ (k : ℕ). getD (a .lens .now) k 0) (c .before .before .channel-index .ensures .0)) in
     λ items. rw (← l .inv .1 items, members-step (l .rest) (l .inv .0) (omega arith), le-ltb n 16 h)
 
 sub-rest : tie.Need-sub-rest Inv-loop μ-loop
@@ -74,8 +74,8 @@ loop-again c =
     let l = b .loop in
     let s = l .rest in
     let a = b .before .args in
-    let n = getD (a .lens .now) (place (a .from) (trailingZeros 8 s)) 0 in
-    let h : n < 16 = omega (arith, ap (λ (k : ℕ). getD (a .lens .now) k 0) (c .before .before .place .ensures .0)) in
+    let n = getD (a .lens .now) (channelIndex (a .from) (trailingZeros 8 s)) 0 in
+    let h : n < 16 = omega (arith, ap (λ (k : ℕ). getD (a .lens .now) k 0) (c .before .before .channel-index .ensures .0)) in
     (omega (arith, and-le-l s (s - 1), l .inv .0), λ items. rw (← l .inv .1 items, members-step s (l .inv .0) (omega arith), lt-ltb n 16 h))
 
 returns-2 : tie.Need-returns-2 Inv-loop μ-loop
@@ -92,7 +92,7 @@ first-full-spec =
     μ-loop
     loop-holds
     cast-j
-    place-requires
+    channel-index-requires
     element-copy-out-if1
     cast-result
     add-result

@@ -22,11 +22,11 @@ Inv-loop items₀ lens₀ from to set word rest₀ left₀ items lens rest left 
 abbrev μ-loop : tie.MeasureT-loop
 μ-loop items₀ lens₀ from to set word rest₀ left₀ items lens rest left = left
 
--- Landmarks: the channel's place found; the loop, as seen from there.
-abbrev placed : tie.After-push Inv-loop μ-loop → tie.After-place Inv-loop μ-loop
-placed c = c .before .before .before
+-- Landmarks: the channel's index found; the loop, as seen from there.
+abbrev indexed : tie.After-push Inv-loop μ-loop → tie.After-channel-index Inv-loop μ-loop
+indexed c = c .before .before .before
 
-abbrev looped : tie.After-place Inv-loop μ-loop → tie.At-loop Inv-loop μ-loop
+abbrev looped : tie.After-channel-index Inv-loop μ-loop → tie.At-loop Inv-loop μ-loop
 looped c = c .before .before
 
 add-word : tie.Need-add-word Inv-loop μ-loop
@@ -38,8 +38,8 @@ loop-holds c = (c .fits .to .fits, members-length (c .args .to) (c .fits .to .fi
 cast-j : tie.Need-cast-j Inv-loop μ-loop
 cast-j c = omega (arith, trailing-le 8 (c .before .loop .rest))
 
-place-requires : tie.Need-place-requires Inv-loop μ-loop
-place-requires c κs =
+channel-index-requires : tie.Need-channel-index-requires Inv-loop μ-loop
+channel-index-requires c κs =
     let l = c .before .loop in
     let h = lowest-lt (l .rest) (l .inv .0) (some-left _ _ (l .inv .1) (omega arith)) in
     (omega arith, omega arith)
@@ -48,7 +48,7 @@ push-requires : tie.Need-push-requires Inv-loop μ-loop
 push-requires c κs = search needs
 
 sub-rest : tie.Need-sub-rest Inv-loop μ-loop
-sub-rest c = some-left _ _ (looped (placed c) .loop .inv .1) (omega arith)
+sub-rest c = some-left _ _ (looped (indexed c) .loop .inv .1) (omega arith)
 
 sub-left : tie.Need-sub-left Inv-loop μ-loop
 sub-left c = search needs
@@ -58,12 +58,12 @@ loop-less c = search needs
 
 loop-again : tie.Need-loop-again Inv-loop μ-loop
 loop-again c =
-    let l = looped (placed c) .loop in
+    let l = looped (indexed c) .loop in
     let s = l .rest in
     let step = members-step s (l .inv .0) (some-left _ _ (l .inv .1) (omega arith)) in (
       omega (arith, and-le-l s (s - 1), l .inv .0),
       omega (arith, l .inv .1, ap (length {A = ℕ}) step),
-      rw (c .push .ensures, placed c .place .ensures .0) (rw (step) at (l .inv .2)),
+      rw (c .push .ensures, indexed c .channel-index .ensures .0) (rw (step) at (l .inv .2)),
     )
 
 returns : tie.Need-returns Inv-loop μ-loop
@@ -82,7 +82,7 @@ request-all-spec =
     add-word
     loop-holds
     cast-j
-    place-requires
+    channel-index-requires
     push-requires
     sub-rest
     sub-left

@@ -9,10 +9,10 @@ use Rattle.items.proofs.counted.Statement.{statement}
 use Rattle.items.proofs.counted.Tie as tie
 
 abbrev Inv-loop : tie.InvT-loop
-Inv-loop words owns shown seen₀ i₀ i-end seen i = (i-end ≡ length words) × (i ≤ i-end) × Seen seen shown words owns i
+Inv-loop words ordinals shown seen₀ i₀ i-end seen i = (i-end ≡ length words) × (i ≤ i-end) × Seen seen shown words ordinals i
 
 abbrev μ-loop : tie.MeasureT-loop
-μ-loop words owns shown seen₀ i₀ i-end seen i = i-end - i
+μ-loop words ordinals shown seen₀ i₀ i-end seen i = i-end - i
 
 -- Landmarks, backwards: the call's arguments before the loop, the round's beginning, the record's high byte.
 abbrev start : tie.At-loop Inv-loop μ-loop → tie.Start Inv-loop μ-loop
@@ -76,7 +76,7 @@ loop-again c =
     let a = start (top (split c)) .args in (
       refl,
       omega arith,
-      seen-more (at .seen) (a .t3) (a .words .now) (a .owns .now) (at .i) (h .result) (c .before .shown-for .result) (c .inside .result)
+      seen-more (at .seen) (a .t3) (a .words .now) (a .ordinals .now) (at .i) (h .result) (c .before .shown-for .result) (c .inside .result)
           (at .inv .2) (omega arith) (omega arith) (h .ensures .0) (h .ensures .1) (c .before .shown-for .ensures) (c .inside .ensures .0),
     )
 
@@ -84,7 +84,7 @@ returns : tie.Need-returns Inv-loop μ-loop
 returns c =
     let at = c .before .loop in
     let a = start (c .before) .args in
-    seen-all (at .seen) (a .t3) (a .words .now) (a .owns .now) (at .i) (omega arith) (at .inv .2)
+    seen-all (at .seen) (a .t3) (a .words .now) (a .ordinals .now) (at .i) (omega arith) (at .inv .2)
 
 pub counted-spec : {M : Type 1} → statement M
 counted-spec =

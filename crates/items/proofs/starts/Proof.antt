@@ -1,4 +1,4 @@
--- `items::starts` meets its contract, by the places up to the next one.
+-- `items::starts` meets its contract, by the channels up to the next one.
 use mathlib.Core.Path.{_≡_, refl, _∙_}
 use Prim.Native.Nat.{_+_, _-_, _*_, _<_, _≤_}
 use native.Mathlib.Omega.{arith}
@@ -6,7 +6,7 @@ use borrow.Author.Needs.{needs}
 use lib.ListN.{length, getD, replicate, length-set}
 use lib.Seq.{getD-set-same}
 use Rattle.items.specs.InnerItems.{Starts}
-use Rattle.items.proofs.Places.{starts-none, starts-more}
+use Rattle.items.proofs.ChannelStarts.{starts-none, starts-more}
 use Rattle.items.proofs.starts.Statement.{statement}
 use Rattle.items.proofs.starts.Tie as tie
 

@@ -1,5 +1,5 @@
 -- `local::request` meets its contract.
-use Rattle.local.specs.Asked.{requestedBy, turned}
+use Rattle.local.specs.Requesting.{requestedBy, turned}
 use borrow.Author.Needs.{needs}
 use Rattle.local.proofs.request.Statement.{statement}
 use Rattle.local.proofs.request.Tie as tie
@@ -10,8 +10,8 @@ enum-told c = search needs
 turn-requires : tie.Need-turn-requires
 turn-requires c κs = search needs
 
-enum-known-mark : tie.Need-enum-known-mark
-enum-known-mark c = search needs
+enum-known-checkpoint : tie.Need-enum-known-checkpoint
+enum-known-checkpoint c = search needs
 
 turn-requires-2 : tie.Need-turn-requires-2
 turn-requires-2 c κs = search needs
@@ -25,7 +25,7 @@ returns c = rw (c .turn .ensures, c .before .enum-told .given .1)
 
 returns-2 : tie.Need-returns-2
 unfolding requestedBy turned
-returns-2 c = rw (c .turn2 .ensures, c .before .before .mark .given .1)
+returns-2 c = rw (c .turn2 .ensures, c .before .before .checkpoint .given .1)
 
 returns-3 : tie.Need-returns-3
 unfolding requestedBy
@@ -37,7 +37,7 @@ request-spec =
     (tie.spec
     enum-told
     turn-requires
-    enum-known-mark
+    enum-known-checkpoint
     turn-requires-2
     enum-told-2
     returns

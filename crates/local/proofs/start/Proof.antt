@@ -1,5 +1,5 @@
 -- `local::start` meets its contract.
-use Rattle.local.specs.Asked.{startedBy, turned}
+use Rattle.local.specs.Requesting.{startedBy, turned}
 use borrow.Author.Needs.{needs}
 use Rattle.local.proofs.start.Statement.{statement}
 use Rattle.local.proofs.start.Tie as tie

@@ -1,6 +1,6 @@
 -- `local::turn` meets its contract.
 use borrow.Author.Tests.{eq-eqb, ne-eqb}
-use Rattle.local.specs.Asked.{turned}
+use Rattle.local.specs.Requesting.{turned}
 use borrow.Author.Needs.{needs}
 use Rattle.local.proofs.turn.Statement.{statement}
 use Rattle.local.proofs.turn.Tie as tie

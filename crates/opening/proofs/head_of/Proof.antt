@@ -1,7 +1,7 @@
 -- `opening::head_of` meets its contract; each read and each call is allowed by search.
 use mathlib.Core.Path.{_≡_, sym}
 use lib.ListN.{length}
-use Rattle.opening.proofs.Laws.{all-places}
+use Rattle.opening.proofs.Laws.{all-indices}
 use borrow.Author.Needs.{needs}
 use Rattle.opening.proofs.head_of.Statement.{statement}
 use Rattle.opening.proofs.head_of.Tie as tie
@@ -28,7 +28,7 @@ returns c =
       c6 .open6 .ensures,
       c7 .open7 .ensures,
       c .open8 .ensures,
-      sym (all-places (c0 .before .args .opening .stocks) (eight c0)),
+      sym (all-indices (c0 .before .args .opening .stocks) (eight c0)),
     )
 
 pub head-of-spec : {M : Type 1} → statement M

@@ -1,4 +1,4 @@
--- `recorder::no_requests` meets its contract: the places before the next one.
+-- `recorder::no_requests` meets its contract: the indices before the next one.
 use mathlib.Core.Path.{_≡_, refl, _∙_, ap}
 use Prim.Native.Nat.{ℕ, _-_, _≤_}
 use native.Mathlib.Numerals.{add-one}

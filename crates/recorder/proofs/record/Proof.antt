@@ -1,5 +1,5 @@
 -- `recorder::record` meets its contract: question 1, then what is left.
-use mathlib.Core.Path.{_≡_, refl, sym, _∙_, ap}
+use mathlib.Core.Path.{_≡_, refl, sym, _∙_}
 use mathlib.Core.Bool.{true}
 use lib.ListN.{length, length-map}
 use borrow.Author.Tests.{not-true, not-false}

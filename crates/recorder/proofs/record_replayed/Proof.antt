@@ -1,23 +1,21 @@
 -- `recorder::record_replayed` meets its contract: questions 12, 13 and 14, and the bytes.
-use mathlib.Core.Path.{_≡_, refl, sym, _∙_, ap, ap₂, subst}
+use mathlib.Core.Path.{_≡_, sym, _∙_, ap}
 use mathlib.Core.Bool.{true}
-use mathlib.Core.List.{List}
-use Prim.Native.Nat.{ℕ, _-_}
-use native.Mathlib.Omega.{arith}
-use lib.ListN.{length, take, length-take}
+use Prim.Native.Nat.{_-_}
+use lib.ListN.{length}
 use borrow.Author.Tests.{not-true, not-false}
 use Rattle.run.specs.State.{countOf, hasStarted}
 use Rattle.recording.specs.Call.{noRequests}
 use Rattle.recording.proofs.Bounds.{run-sound}
 use Rattle.journal.specs.Writing.{Output}
-use Rattle.recorder.proofs.Recorded.{enough-words, enough-owns, parts-fit, parts-written, refused-12, refused-13}
+use Rattle.recorder.proofs.Recorded.{enough-words, enough-ordinals, parts-fit, parts-written, refused-12, refused-13}
 use borrow.Author.Needs.{needs}
 use Rattle.recorder.proofs.record_replayed.Statement.{statement}
 use Rattle.run.specs.declared.SiteCall.the-variants.{Start}
 use Rattle.run.specs.Calls.{answer}
 use Rattle.recorder.proofs.record_replayed.Tie as tie
 
--- Landmarks: 12 answered yes; the items are read; 13 answered yes; the records are lent; their own-event numbers are lent.
+-- Landmarks: 12 answered yes; the items are read; 13 answered yes; the records are lent; their own-event ordinals are lent.
 abbrev start : tie.After-has-started → tie.Start
 start c = c .before .before .before .before
 
@@ -88,7 +86,7 @@ part-write-sized-start-2 c = search needs
 part-write-sized-end-2 : tie.Need-part-write-sized-end-2
 part-write-sized-end-2 c =
     let s = start (asked (searched (cut (c .before) .before))) in
-    enough-owns _ _ (s .pre)
+    enough-ordinals _ _ (s .pre)
 
 write-sized-requires : tie.Need-write-sized-requires
 write-sized-requires c κs = parts-fit _ _ (start (asked (searched (sized c .before))) .pre)

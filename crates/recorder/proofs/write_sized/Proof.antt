@@ -1,5 +1,5 @@
 -- `recorder::write_sized` meets its contract: the number of items decides question 14.
-use mathlib.Core.Path.{_≡_, refl, _∙_, ap, subst}
+use mathlib.Core.Path.{_≡_, refl, _∙_, ap}
 use mathlib.Core.List.{List}
 use Prim.Native.Nat.{ℕ, _≤_}
 use native.Mathlib.Omega.{arith}
@@ -31,13 +31,13 @@ count c = c .before .before
 -- The number of items, and its bound.
 module _ (c : tie.After-number) where
   number-is : let a = start (events c) .args in
-      c .number .result ≡ length (allWords (countOf (a .head)) (events c .shown-events .result) (a .words .now) (a .owns .now))
+      c .number .result ≡ length (allWords (countOf (a .head)) (events c .shown-events .result) (a .words .now) (a .ordinals .now))
   number-is = c .number .ensures ∙ all-number _ _ _ _ _ (counted-of (count c .counted .ensures))
 
   few : c .number .result ≤ 1000
   few =
       let a = start (events c) .args in
-      let e = number-is ∙ ap (λ (l : List ℕ). length (allWords (countOf (a .head)) l (a .words .now) (a .owns .now))) (events c .shown-events .ensures) in
+      let e = number-is ∙ ap (λ (l : List ℕ). length (allWords (countOf (a .head)) l (a .words .now) (a .ordinals .now))) (events c .shown-events .ensures) in
       omega (arith, e, start (events c) .pre .items)
 
 shown-events-requires : tie.Need-shown-events-requires
@@ -71,7 +71,7 @@ returns : tie.Need-returns
 returns c =
     let b = c .before .before in
     let a = start (events b) .args in
-    let e = too-few (a .head) (a .words .now) (a .owns .now) _ _ (a .out .now) (events b .shown-events .ensures) (number-is b) (c .before .if1 .taken) in
+    let e = too-few (a .head) (a .words .now) (a .ordinals .now) _ _ (a .out .now) (events b .shown-events .ensures) (number-is b) (c .before .if1 .taken) in
     rw e (c .refused .ensures, refl)
 
 cast-write-all : tie.Need-cast-write-all
@@ -93,7 +93,7 @@ returns-2 c =
     let t = d .before .before .before in
     let b = t .before in
     let a = start (events b) .args in
-    let e = enough (a .head) (a .words .now) (a .owns .now) _ _ (a .out .now) (events b .shown-events .ensures) (number-is b)
+    let e = enough (a .head) (a .words .now) (a .ordinals .now) _ _ (a .out .now) (events b .shown-events .ensures) (number-is b)
     (w .last .0) (w .result) (t .if1 .left) (w .ensures) in
     rw e (refl, refl)
 

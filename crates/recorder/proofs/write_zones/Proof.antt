@@ -1,5 +1,5 @@
 -- `recorder::write_zones` meets its contract: the words of the zones before the next one.
-use mathlib.Core.Path.{_≡_, refl, sym, _∙_, ap, ap₂, subst}
+use mathlib.Core.Path.{_≡_, refl, sym, ap, subst}
 use mathlib.Core.List.{List}
 use Prim.Native.Nat.{ℕ, _+_, _-_, _*_, _<_, _≤_}
 use native.Mathlib.Numerals.{add-one}
@@ -12,7 +12,7 @@ use Rattle.words.specs.InnerWrote.{Wrote}
 use Rattle.run.specs.Opening.{stockAt}
 use Rattle.run.specs.State.{countOf, zoneAt}
 use Rattle.recording.specs.Layout.{joinBelow}
-use Rattle.recorder.specs.InnerWords.{markWords, zonesWords}
+use Rattle.recorder.specs.InnerWords.{checkpointWords, zonesWords}
 use Rattle.items.proofs.Writing.{none-wrote, wrote-length, more-wrote}
 use Rattle.recorder.proofs.Shown.{zones-size}
 use Rattle.recorder.proofs.write_zones.Statement.{statement}
@@ -22,7 +22,7 @@ use Rattle.recorder.proofs.write_zones.Tie as tie
 abbrev Inv-loop : tie.InvT-loop
 Inv-loop out₀ head count stocks at₀ i₀ out at i =
     (i ≤ count) × (count ≡ countOf head)
-    × Wrote (joinBelow i (λ j. markWords (zoneAt head j .checkpoint) (stockAt (head .opening) j))) out₀ out at
+    × Wrote (joinBelow i (λ j. checkpointWords (zoneAt head j .checkpoint) (stockAt (head .opening) j))) out₀ out at
 
 abbrev μ-loop : tie.MeasureT-loop
 μ-loop out₀ head count stocks at₀ i₀ out at i = count - i
@@ -113,7 +113,7 @@ loop-again c =
     let h = room (f .before) in
     let e = w .write-zone .ensures in
     let a = start (read (f .before .before)) .args in
-    let q = ap (λ (z : Local). markWords (z .checkpoint) (stockAt (a .head .opening) (l .i))) (f .zone-at .ensures) in (
+    let q = ap (λ (z : Local). checkpointWords (z .checkpoint) (stockAt (a .head .opening) (l .i))) (f .zone-at .ensures) in (
       omega (arith, f .before .loop-test .taken),
       l .inv .1,
       rw (add-one (l .i)) (more-wrote _ _ _ _ _ _ _ (l .inv .2) (omega (arith, h .1, e .number)) (wrote-as q e)),

@@ -8,10 +8,10 @@ use borrow.Author.Needs.{needs}
 use borrow.Author.Tests.{not-false}
 use Rattle.rules.specs.Below.{allBelow}
 use Rattle.rules.proofs.Tests.{and-left, and-right}
-use Rattle.channel.specs.Channels.{channelsAs, allEmpty, place}
+use Rattle.channel.specs.Channels.{channelsAs, allEmpty, channelIndex}
 use Rattle.channel.specs.declared.Channels.{Channels}
 use Rattle.run.proofs.BelowLaws.{all-to}
-use Rattle.run.proofs.PlaceLaws.{all-zone, all-none, none-from}
+use Rattle.run.proofs.IndexLaws.{all-zone, all-none, none-from}
 use Rattle.journal.specs.Writing.{sameChannels}
 use Rattle.same.specs.InnerAt.{sameAt, sameFrom}
 use Rattle.same.proofs.Laws.{empty-same, same-end}
@@ -40,9 +40,9 @@ others c = channelsAs (c .args .b .now) (c .args .blens .now)
 
 -- Where nothing is on the channels from a zone in either, they are the same.
 both-empty : (count : ℕ) (l m : Channels) (from : ℕ) (p q : Bool) → p ≡ allEmpty (l .lens) from → q ≡ allEmpty (m .lens) from
-    → p && q ≡ true → (j : ℕ) → j < 8 → sameAt count l m (place from j) ≡ true
+    → p && q ≡ true → (j : ℕ) → j < 8 → sameAt count l m (channelIndex from j) ≡ true
 both-empty count l m from p q e f h j b =
-    empty-same count l m (place from j) (none-from (l .lens) from (sym e ∙ and-left p q h) j b) (none-from (m .lens) from (sym f ∙ and-right p q h) j b)
+    empty-same count l m (channelIndex from j) (none-from (l .lens) from (sym e ∙ and-left p q h) j b) (none-from (m .lens) from (sym f ∙ and-right p q h) j b)
 
 loop-holds : tie.Need-loop-holds Inv-loop μ-loop
 loop-holds c = (omega arith, refl)

@@ -1,4 +1,4 @@
--- `same::same_checkpoint` meets its contract, mark by mark.
+-- `same::same_checkpoint` meets its contract, checkpoint by checkpoint.
 use borrow.Author.Needs.{needs}
 use Rattle.same.proofs.same_checkpoint.Statement.{statement}
 use Rattle.same.proofs.same_checkpoint.Tie as tie

@@ -10,7 +10,7 @@ use Rattle.channel.specs.Channels.{channelsAs}
 use Rattle.channel.specs.declared.Channels.{Channels}
 use Rattle.run.specs.State.{channelsSound, carsOnChannels}
 use Rattle.run.proofs.BelowLaws.{all-to, sum-to}
-use Rattle.run.proofs.PlaceLaws.{all-zone, all-none, sum-zone, sum-none, none-from}
+use Rattle.run.proofs.IndexLaws.{all-zone, all-none, sum-zone, sum-none, none-from}
 use Rattle.scan.specs.InnerAt.{soundAt, carsAt, soundFrom, carsFrom}
 use Rattle.scan.proofs.Laws.{empty-sound, empty-cars, sound-end, cars-end}
 use Rattle.scan.proofs.channels.Statement.{statement}

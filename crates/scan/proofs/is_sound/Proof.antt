@@ -9,7 +9,7 @@ use Rattle.rules.specs.Questions.{isCount}
 use Rattle.rules.proofs.QuestionLaws.{count-high}
 use Rattle.rules.proofs.Tests.{no, yes}
 use Rattle.channel.specs.declared.Channels.{Channels}
-use Rattle.run.specs.State.{termsOf, countOf, zonesSound, channelsSound, stocks, carsOnChannels, partsSound}
+use Rattle.run.specs.State.{termsOf, countOf, localsSound, channelsSound, stocks, carsOnChannels, partsSound}
 use Rattle.run.specs.declared.Head.{Head}
 use Rattle.scan.proofs.is_sound.Statement.{statement}
 use Rattle.scan.proofs.is_sound.Tie as tie
@@ -47,7 +47,7 @@ add-result : tie.Need-add-result
 add-result c = record { fits = omega (arith, zoned (looked c) .zones-of .ensures .2, looked c .channels .ensures .2) }
 
 all-parts : (h : Head) (l : Channels) (a b : Bool) (m n : ℕ) → isCount (countOf h) ≡ true
-    → a ≡ zonesSound h → m ≡ stocks h → b ≡ channelsSound (termsOf h) l → n ≡ carsOnChannels (countOf h) l
+    → a ≡ localsSound h → m ≡ stocks h → b ≡ channelsSound (termsOf h) l → n ≡ carsOnChannels (countOf h) l
     → leb (h .records) 1000 && a && b && leb (m + n) 65535 ≡ partsSound h l
 unfolding partsSound
 all-parts h l a b m n e f g i j = rw (e, f, g, i, j)

@@ -1,5 +1,5 @@
 -- `scan::zone` meets its contract.
-use Rattle.run.specs.State.{zoneSound}
+use Rattle.run.specs.State.{localSound}
 use borrow.Author.Needs.{needs}
 use Rattle.scan.proofs.zone.Statement.{statement}
 use Rattle.scan.proofs.zone.Tie as tie
@@ -8,7 +8,7 @@ is-within-requires : tie.Need-is-within-requires
 is-within-requires c κs = search needs
 
 returns : tie.Need-returns
-unfolding zoneSound
+unfolding localSound
 returns c = rw (c .before .is-within .ensures)
 
 pub zone-spec : {M : Type 1} → statement M

@@ -5,14 +5,14 @@ use native.Mathlib.Omega.{arith}
 use borrow.Author.Needs.{needs}
 use Rattle.rules.specs.Below.{allBelow, sumBelow}
 use Rattle.rules.specs.declared.Local.{Local}
-use Rattle.run.specs.State.{countOf, zoneAt, zoneSound, zonesSound, stocks}
+use Rattle.run.specs.State.{countOf, zoneAt, localSound, localsSound, stocks}
 use Rattle.run.proofs.BelowLaws.{all-to, all-next, sum-to, sum-next}
 use Rattle.scan.proofs.zones_of.Statement.{statement}
 use Rattle.scan.proofs.zones_of.Tie as tie
 
 abbrev Inv-loop : tie.InvT-loop
 Inv-loop head count records sound₀ cars₀ i₀ sound cars i =
-    (i ≤ count) × (sound ≡ allBelow i (λ k. zoneSound count records (zoneAt head k)))
+    (i ≤ count) × (sound ≡ allBelow i (λ k. localSound count records (zoneAt head k)))
     × (cars ≡ sumBelow i (λ k. zoneAt head k .stock))
     × (cars ≤ 65535 * i)
 
@@ -59,18 +59,18 @@ loop-again c =
     let h = start l .args .head in
     let e = found c .zone-at .ensures in (
       omega arith,
-      all-next _ (l .loop .i) (l .loop .inv .1) (c .before .zone .ensures ∙ ap (zoneSound (countOf h) (h .records)) e),
+      all-next _ (l .loop .i) (l .loop .inv .1) (c .before .zone .ensures ∙ ap (localSound (countOf h) (h .records)) e),
       sum-next _ (l .loop .i) (l .loop .inv .2) (ap (λ (z : Local). z .stock) e),
       omega (arith, l .loop .inv .3),
     )
 
 returns : tie.Need-returns Inv-loop μ-loop
-unfolding zonesSound stocks
+unfolding localsSound stocks
 returns c =
     let b = c .before in
     let h = start b .args .head in
     let e : b .loop .i ≡ countOf h = omega arith in (
-      b .loop .inv .1 ∙ all-to (λ k. zoneSound (countOf h) (h .records) (zoneAt h k)) e,
+      b .loop .inv .1 ∙ all-to (λ k. localSound (countOf h) (h .records) (zoneAt h k)) e,
       b .loop .inv .2 ∙ sum-to (λ k. zoneAt h k .stock) e,
       omega (arith, b .loop .inv .3),
     )

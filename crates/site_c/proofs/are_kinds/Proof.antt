@@ -1,4 +1,4 @@
--- `site_c::are_kinds` meets its contract, by the places before the next one.
+-- `site_c::are_kinds` meets its contract, by the indices before the next one.
 use mathlib.Core.Path.{_≡_, refl, _∙_, ap}
 use Prim.Native.Nat.{ℕ, _-_, _≤_}
 use native.Mathlib.Numerals.{add-one}

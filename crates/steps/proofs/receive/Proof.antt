@@ -16,7 +16,7 @@ use borrow.Author.Needs.{needs}
 use Rattle.steps.proofs.receive.Statement.{statement}
 use Rattle.steps.proofs.receive.Tie as tie
 
--- Landmarks: 5 answered yes; 6; the channel's place found; 9 answered yes; the item looked at, then taken; the search made; 10 answered
+-- Landmarks: 5 answered yes; 6; the channel's index found; 9 answered yes; the item looked at, then taken; the search made; 10 answered
 -- yes; the item off.
 abbrev start : tie.Else1 → tie.Start
 start c = c .before .before
@@ -24,11 +24,11 @@ start c = c .before .before
 abbrev named : tie.Else2 → tie.Else1
 named c = c .before
 
-abbrev roomy : tie.After-place → tie.Else2
+abbrev roomy : tie.After-channel-index → tie.Else2
 roomy c = c .before
 
-abbrev placed : tie.Else3 → tie.After-place
-placed c = c .before .before
+abbrev indexed : tie.Else3 → tie.After-channel-index
+indexed c = c .before .before
 
 abbrev held : tie.After-take → tie.Else3
 held c = c .before .before
@@ -83,14 +83,14 @@ sub-a c = pair-low 8 _ _ (fits c .0) .0
 sub-b : tie.Need-sub-b
 sub-b c = pair-low 8 _ _ (fits c .0) .1
 
-cast-place : tie.Need-cast-place
-cast-place c = search needs
+cast-channel-index : tie.Need-cast-channel-index
+cast-channel-index c = search needs
 
-cast-place-2 : tie.Need-cast-place-2
-cast-place-2 c = search needs
+cast-channel-index-2 : tie.Need-cast-channel-index-2
+cast-channel-index-2 c = search needs
 
-place-requires : tie.Need-place-requires
-place-requires c κs = let p = pair 8 _ _ (fits c .0) in (p .from, p .to)
+channel-index-requires : tie.Need-channel-index-requires
+channel-index-requires c κs = let p = pair 8 _ _ (fits c .0) in (p .from, p .to)
 
 element-copy-out-if3 : tie.Need-element-copy-out-if3
 element-copy-out-if3 c = search needs
@@ -103,7 +103,7 @@ returns-3 c = λ started.
     let p = c .before .before .before in
     let r = roomy p in
     let n = named r in
-    receive-9 _ _ _ _ started _ (p .place .ensures .0) _ (c .no-effect3 .ensures) (c .before .if3 .taken)
+    receive-9 _ _ _ _ started _ (p .channel-index .ensures .0) _ (c .no-effect3 .ensures) (c .before .if3 .taken)
     ∙ behind-6 (told (start n)) _ _ _ _ started (is-named n) (r .if2 .left)
 
 mul-word : tie.Need-mul-word
@@ -118,11 +118,11 @@ element-copy-out-word c = search needs
 take-requires : tie.Need-take-requires
 take-requires c κs =
     let h = c .before in
-    let p = placed h in
+    let p = indexed h in
     let f = fits (roomy p) in
     let a = start (named (roomy p)) .args in
     let q = pair 8 _ _ (f .0) in
-    let e = p .place .ensures .0 in
+    let e = p .channel-index .ensures .0 in
     let l = channelsAs (a .items .now) (a .lens .now) in
     let room = f .2 (pos _ (subst (λ (n : ℕ). lenOf l n ≢ 0) e (h .if3 .left))) in
     rw e (q .from, q .to, f .1, room .0, room .1)
@@ -131,7 +131,7 @@ cast-first-full : tie.Need-cast-first-full
 cast-first-full c = search needs
 
 first-full-requires : tie.Need-first-full-requires
-first-full-requires c κs = pair 8 _ _ (fits (roomy (placed (held (c .before)))) .0) .to
+first-full-requires c κs = pair 8 _ _ (fits (roomy (indexed (held (c .before)))) .0) .to
 
 no-effect-requires-4 : tie.Need-no-effect-requires-4
 no-effect-requires-4 c κs = search needs
@@ -141,10 +141,10 @@ returns-4 c = λ started.
     let f = c .before .before in
     let t = taken f in
     let h = held t in
-    let p = placed h in
+    let p = indexed h in
     let r = roomy p in
     let n = named r in
-    receive-10 _ _ _ _ started _ (p .place .ensures .0) (h .if3 .left) _ (t .take .ensures) _ (f .first-full .ensures _) _
+    receive-10 _ _ _ _ started _ (p .channel-index .ensures .0) (h .if3 .left) _ (t .take .ensures) _ (f .first-full .ensures _) _
     (c .no-effect4 .ensures) (c .before .if4 .taken)
     ∙ behind-6 (told (start n)) _ _ _ _ started (is-named n) (r .if2 .left)
 
@@ -155,7 +155,7 @@ cast-request-all : tie.Need-cast-request-all
 cast-request-all c = search needs
 
 request-all-requires : tie.Need-request-all-requires
-request-all-requires c κs = pair 8 _ _ (fits (roomy (placed (held (taken (searched (free (c .before .before))))))) .0) .to
+request-all-requires c κs = pair 8 _ _ (fits (roomy (indexed (held (taken (searched (free (c .before .before))))))) .0) .to
 
 returns-5 : tie.Need-returns-5
 returns-5 c = λ started.
@@ -165,10 +165,10 @@ returns-5 c = λ started.
     let f = searched i in
     let t = taken f in
     let h = held t in
-    let p = placed h in
+    let p = indexed h in
     let r = roomy p in
     let n = named r in
-    receive-0 _ _ _ _ started _ (p .place .ensures .0) (h .if3 .left) _ (t .take .ensures) _ (f .first-full .ensures _) _ _
+    receive-0 _ _ _ _ started _ (p .channel-index .ensures .0) (h .if3 .left) _ (t .take .ensures) _ (f .first-full .ensures _) _ _
     (i .if4 .left) (o .pop .ensures .1) (d .request-all .ensures)
     ∙ behind-6 (told (start n)) _ _ _ _ started (is-named n) (r .if2 .left)
 
@@ -183,9 +183,9 @@ receive-spec =
     returns-2
     sub-a
     sub-b
-    cast-place
-    cast-place-2
-    place-requires
+    cast-channel-index
+    cast-channel-index-2
+    channel-index-requires
     element-copy-out-if3
     no-effect-requires-3
     returns-3

@@ -13,7 +13,7 @@ use borrow.Author.Needs.{needs}
 use Rattle.steps.proofs.send.Statement.{statement}
 use Rattle.steps.proofs.send.Tie as tie
 
--- Landmarks: 5 answered yes; 6; 7; the channel's place found; 8 answered yes; the message's word made.
+-- Landmarks: 5 answered yes; 6; 7; the channel's index found; 8 answered yes; the message's word made.
 abbrev start : tie.Else1 → tie.Start
 start c = c .before .before
 
@@ -23,13 +23,13 @@ named c = c .before
 abbrev roomy : tie.Else3 → tie.Else2
 roomy c = c .before .before
 
-abbrev covered : tie.After-place → tie.Else3
+abbrev covered : tie.After-channel-index → tie.Else3
 covered c = c .before
 
-abbrev placed : tie.After-if42 → tie.After-place
-placed c = c .before
+abbrev indexed : tie.After-if42 → tie.After-channel-index
+indexed c = c .before
 
-abbrev free : tie.After-is-marked → tie.Else4
+abbrev free : tie.After-has-checkpoint → tie.Else4
 free c = c .before
 
 abbrev worded : tie.After-push → tie.After-message-word
@@ -73,20 +73,20 @@ returns-3 c = λ started.
     let n = named r in
     send-7 _ _ _ _ _ started _ (c .no-effect3 .ensures) (c .before .if3 .taken) ∙ behind-6 (told (start n)) _ _ _ _ started (is-named n) (r .if2 .left)
 
-sub-place : tie.Need-sub-place
-sub-place c = pair-low 8 _ _ (fits (roomy c) .0) .0
+sub-channel-index : tie.Need-sub-channel-index
+sub-channel-index c = pair-low 8 _ _ (fits (roomy c) .0) .0
 
-cast-place : tie.Need-cast-place
-cast-place c = search needs
+cast-channel-index : tie.Need-cast-channel-index
+cast-channel-index c = search needs
 
-sub-place-2 : tie.Need-sub-place-2
-sub-place-2 c = pair-low 8 _ _ (fits (roomy c) .0) .1
+sub-channel-index-2 : tie.Need-sub-channel-index-2
+sub-channel-index-2 c = pair-low 8 _ _ (fits (roomy c) .0) .1
 
-cast-place-2 : tie.Need-cast-place-2
-cast-place-2 c = search needs
+cast-channel-index-2 : tie.Need-cast-channel-index-2
+cast-channel-index-2 c = search needs
 
-place-requires : tie.Need-place-requires
-place-requires c κs = let p = pair 8 _ _ (fits (roomy c) .0) in (p .from, p .to)
+channel-index-requires : tie.Need-channel-index-requires
+channel-index-requires c κs = let p = pair 8 _ _ (fits (roomy c) .0) in (p .from, p .to)
 
 element-copy-out-if4 : tie.Need-element-copy-out-if4
 element-copy-out-if4 c = search needs
@@ -96,14 +96,14 @@ no-effect-requires-4 c κs = search needs
 
 returns-4 : tie.Need-returns-4
 returns-4 c = λ started.
-    let p = placed (c .before .before) in
+    let p = indexed (c .before .before) in
     let r = roomy (covered p) in
     let n = named r in
-    send-8 _ _ _ _ _ started _ _ (p .place .ensures .0) (c .no-effect4 .ensures) (covered p .if3 .left) (c .before .if4 .taken)
+    send-8 _ _ _ _ _ started _ _ (p .channel-index .ensures .0) (c .no-effect4 .ensures) (covered p .if3 .left) (c .before .if4 .taken)
     ∙ behind-6 (told (start n)) _ _ _ _ started (is-named n) (r .if2 .left)
 
-is-marked-requires : tie.Need-is-marked-requires
-is-marked-requires c κs = search needs
+has-checkpoint-requires : tie.Need-has-checkpoint-requires
+has-checkpoint-requires c κs = search needs
 
 message-word-requires : tie.Need-message-word-requires
 message-word-requires c κs = search needs
@@ -112,16 +112,16 @@ push-requires : tie.Need-push-requires
 push-requires c κs = search needs
 
 send-requires : tie.Need-send-requires
-send-requires c κs = let v = covered (placed (free (worded c .before) .before)) in (v .if3 .left, fits (roomy v) .1)
+send-requires c κs = let v = covered (indexed (free (worded c .before) .before)) in (v .if3 .left, fits (roomy v) .1)
 
 returns-5 : tie.Need-returns-5
 returns-5 c = λ started.
     let w = worded (c .before) in
     let f = free (w .before) in
-    let p = placed (f .before) in
+    let p = indexed (f .before) in
     let r = roomy (covered p) in
     let n = named r in
-    send-0 _ _ _ _ _ started _ _ _ _ _ (p .place .ensures .0) (covered p .if3 .left) (f .if4 .left) (w .before .is-marked .ensures)
+    send-0 _ _ _ _ _ started _ _ _ _ _ (p .channel-index .ensures .0) (covered p .if3 .left) (f .if4 .left) (w .before .has-checkpoint .ensures)
     (w .message-word .ensures) (c .before .push .ensures) (c .send .ensures)
     ∙ behind-6 (told (start n)) _ _ _ _ started (is-named n) (r .if2 .left)
 
@@ -136,15 +136,15 @@ send-spec =
     returns-2
     no-effect-requires-3
     returns-3
-    sub-place
-    cast-place
-    sub-place-2
-    cast-place-2
-    place-requires
+    sub-channel-index
+    cast-channel-index
+    sub-channel-index-2
+    cast-channel-index-2
+    channel-index-requires
     element-copy-out-if4
     no-effect-requires-4
     returns-4
-    is-marked-requires
+    has-checkpoint-requires
     message-word-requires
     push-requires
     send-requires

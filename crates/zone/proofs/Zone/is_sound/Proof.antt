@@ -1,5 +1,5 @@
 -- `zone::Zone::is_sound` meets its contract.
-use Rattle.zone.specs.Zone.{isSound}
+use Rattle.zone.specs.Zone.{isZoneSound}
 use borrow.Author.Needs.{needs}
 use Rattle.zone.proofs.Zone.is_sound.Statement.{statement}
 use Rattle.zone.proofs.Zone.is_sound.Tie as tie
@@ -14,7 +14,7 @@ is-within-requires : tie.Need-is-within-requires
 is-within-requires c κs = search needs
 
 returns : tie.Need-returns
-unfolding isSound
+unfolding isZoneSound
 returns c =
     let b = c .before .before in
     rw (b .before .before .is-count .ensures, b .before .is-on .ensures, b .is-within .ensures)

@@ -6,7 +6,7 @@ use native.Mathlib.Omega.{arith}
 use borrow.Author.Tests.{lt-ltb, le-ltb, le-leb, lt-leb}
 use Rattle.rules.proofs.Tests.{no, yes}
 use Rattle.zone.proofs.Laws.{other-number}
-use Rattle.zone.specs.Zone.{receiveStep, isSound, isOther}
+use Rattle.zone.specs.Zone.{receiveStep, isZoneSound, isOther}
 use borrow.Author.Needs.{needs}
 use Rattle.zone.proofs.Zone.receive.Statement.{statement}
 use Rattle.zone.proofs.Zone.receive.Tie as tie
@@ -19,7 +19,7 @@ abbrev asked-5 : tie.Else4 → tie.Else2
 asked-5 c = c .before .before .before .before
 
 -- The questions passed.
-sound : (c : tie.Else1) → isSound (c .before .before .args .self) ≡ true
+sound : (c : tie.Else1) → isZoneSound (c .before .before .args .self) ≡ true
 sound c = yes (c .before .is-sound .ensures) (c .if1 .left)
 
 other : (c : tie.Else2) → isOther (start c .args .self) (start c .args .from) ≡ true

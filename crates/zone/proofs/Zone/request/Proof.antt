@@ -4,13 +4,13 @@ use mathlib.Core.Bool.{true}
 use native.Mathlib.Omega.{arith}
 use Rattle.rules.proofs.Tests.{no, yes}
 use Rattle.zone.proofs.Laws.{own-number}
-use Rattle.zone.specs.Zone.{requestStep, isSound}
+use Rattle.zone.specs.Zone.{requestStep, isZoneSound}
 use borrow.Author.Needs.{needs}
 use Rattle.zone.proofs.Zone.request.Statement.{statement}
 use Rattle.zone.proofs.Zone.request.Tie as tie
 
 -- The question passed.
-sound : (c : tie.Else1) → isSound (c .before .before .args .self) ≡ true
+sound : (c : tie.Else1) → isZoneSound (c .before .before .args .self) ≡ true
 sound c = yes (c .before .is-sound .ensures) (c .if1 .left)
 
 is-sound-requires : tie.Need-is-sound-requires

@@ -4,13 +4,13 @@ use mathlib.Core.Bool.{true}
 use native.Mathlib.Omega.{arith}
 use borrow.Author.Tests.{lt-ltb, le-ltb, le-leb, lt-leb}
 use Rattle.rules.proofs.Tests.{no, yes}
-use Rattle.zone.specs.Zone.{sendStep, isSound, isOther}
+use Rattle.zone.specs.Zone.{sendStep, isZoneSound, isOther}
 use borrow.Author.Needs.{needs}
 use Rattle.zone.proofs.Zone.send.Statement.{statement}
 use Rattle.zone.proofs.Zone.send.Tie as tie
 
 -- The questions passed.
-sound : (c : tie.Else1) → isSound (c .before .before .args .self) ≡ true
+sound : (c : tie.Else1) → isZoneSound (c .before .before .args .self) ≡ true
 sound c = yes (c .before .is-sound .ensures) (c .if1 .left)
 
 other : (c : tie.Else2) → isOther (c .before .before .before .before .args .self) (c .before .before .before .before .args .to) ≡ true
@@ -62,8 +62,8 @@ returns-4 c =
       lt-leb _ _ (c .before .if4 .taken),
     )
 
-is-marked-requires : tie.Need-is-marked-requires
-is-marked-requires c κs = search needs
+has-checkpoint-requires : tie.Need-has-checkpoint-requires
+has-checkpoint-requires c κs = search needs
 
 local-requires : tie.Need-local-requires
 local-requires c κs = search needs
@@ -83,7 +83,7 @@ returns-5 c =
       c .with-local .ensures,
       c .before .send .ensures,
       c .before .before .local .ensures,
-      b .is-marked .ensures,
+      b .has-checkpoint .ensures,
       sound (d .before .before .before .before),
       other (d .before .before),
       lt-ltb _ _ (d .if3 .left),
@@ -104,7 +104,7 @@ send-spec =
     returns-3
     refused-requires-4
     returns-4
-    is-marked-requires
+    has-checkpoint-requires
     local-requires
     send-requires
     with-local-requires

@@ -4,13 +4,13 @@ use mathlib.Core.Bool.{true}
 use native.Mathlib.Omega.{arith}
 use Rattle.rules.proofs.Tests.{no, yes}
 use Rattle.zone.proofs.Laws.{own-number}
-use Rattle.zone.specs.Zone.{startStep, isSound}
+use Rattle.zone.specs.Zone.{startStep, isZoneSound}
 use borrow.Author.Needs.{needs}
 use Rattle.zone.proofs.Zone.start.Statement.{statement}
 use Rattle.zone.proofs.Zone.start.Tie as tie
 
 -- The question passed.
-sound : (c : tie.Else1) → isSound (c .before .before .args .self) ≡ true
+sound : (c : tie.Else1) → isZoneSound (c .before .before .args .self) ≡ true
 sound c = yes (c .before .is-sound .ensures) (c .if1 .left)
 
 is-sound-requires : tie.Need-is-sound-requires
@@ -23,8 +23,8 @@ returns : tie.Need-returns
 unfolding startStep
 returns c = rw (c .refused .ensures, no (c .before .before .is-sound .ensures) (c .before .if1 .taken))
 
-is-marked-requires : tie.Need-is-marked-requires
-is-marked-requires c κs = search needs
+has-checkpoint-requires : tie.Need-has-checkpoint-requires
+has-checkpoint-requires c κs = search needs
 
 refused-requires-2 : tie.Need-refused-requires-2
 refused-requires-2 c κs = search needs
@@ -33,7 +33,7 @@ returns-2 : tie.Need-returns-2
 unfolding startStep
 returns-2 c =
     let b = c .before .before in
-    rw (c .refused2 .ensures, sound (b .before), sym (b .is-marked .ensures) ∙ c .before .if2 .taken)
+    rw (c .refused2 .ensures, sound (b .before), sym (b .has-checkpoint .ensures) ∙ c .before .if2 .taken)
 
 local-requires : tie.Need-local-requires
 local-requires c κs = search needs
@@ -59,7 +59,7 @@ returns-3 c =
       b .start .ensures,
       d .local .ensures,
       sound (d .before .before .before),
-      sym (d .before .before .is-marked .ensures) ∙ d .before .if2 .left,
+      sym (d .before .before .has-checkpoint .ensures) ∙ d .before .if2 .left,
     )
 
 pub start-spec : {M : Type 1} → statement M
@@ -69,7 +69,7 @@ start-spec =
     is-sound-requires
     refused-requires
     returns
-    is-marked-requires
+    has-checkpoint-requires
     refused-requires-2
     returns-2
     local-requires

@@ -1,4 +1,4 @@
--- Where the words of each place begin among those of all, and which records are messages of a place.
+-- Where the words of each channel begin among those of all, and which records are messages of a channel.
 use mathlib.Core.Path.{_≡_, refl, sym, _∙_, ap}
 use mathlib.Core.Bool.{Bool, true, false, _&&_, and-false}
 use mathlib.Core.Logic.{_⊎_, inl, inr}
@@ -10,6 +10,7 @@ use lib.ListN.{length, getD, take, drop, set}
 use lib.Dec.{eqb, ltb}
 use lib.Seq.{drop-cons, getD-set-same, getD-set-other}
 use borrow.Author.Tests.{eqb-true, eq-eqb, ltb-true, lt-ltb}
+use Rattle.rules.specs.Below.{sumBelow}
 use Rattle.rules.specs.Change.{cons-if}
 use Rattle.rules.proofs.Tests.{and-left}
 use Rattle.run.proofs.BelowLaws.{split}
@@ -17,7 +18,7 @@ use Rattle.recording.specs.Layout.{joinBelow}
 use Rattle.recording.specs.InnerRecords.{isIn, sendsOn, sentWords}
 use Rattle.items.specs.InnerItems.{isSent, numberAt, startAt, Starts}
 
--- The number of the items before a place.
+-- The number of the items before a channel.
 module _ (count : ℕ) (seen : List ℕ) where
   pub start-none : startAt count seen 0 ≡ 0
   unfolding startAt
@@ -26,6 +27,10 @@ module _ (count : ℕ) (seen : List ℕ) where
   pub start-next : (k : ℕ) → startAt count seen (suc k) ≡ startAt count seen k + numberAt count seen k
   unfolding startAt
   start-next k = refl
+
+  pub start-sum : (k : ℕ) → startAt count seen k ≡ sumBelow k (numberAt count seen)
+  unfolding startAt
+  start-sum k = refl
 
   pub starts-none : (starts : List ℕ) → getD starts 0 0 ≡ 0 → Starts 0 starts count seen
   starts-none starts e k h = let z : k ≡ 0 = omega arith in rw z (e ∙ sym start-none)
@@ -39,7 +44,7 @@ module _ (count : ℕ) (seen : List ℕ) where
       go (inr q) =
           rw (q, getD-set-same starts (k + 1) (getD starts k 0 + n) 0 b, s k (omega arith), e, add-one k) (sym (start-next k))
 
--- Lists one after another: those of the places before k stand in front.
+-- Lists one after another: those of the channels before k stand in front.
 pub record Front (xs all : List ℕ) : Type 0 where
   pub rest : List ℕ
   pub joined : all ≡ xs ++ rest
@@ -54,7 +59,7 @@ front f k (suc n) h = go (split k (suc n) (omega arith)) (front f k n)
         record { rest = p .rest ++ f n; joined = ap (λ (xs : List ℕ). xs ++ f n) (p .joined) ∙ append-assoc (joinBelow k f) (p .rest) (f n) }
     go (inr e) more = rw e (record { rest = []; joined = sym (append-nil (joinBelow (suc n) f)) })
 
--- The messages at place k in the records before number i, and from there on; they are no more than the records.
+-- The messages at index k in the records before number i, and from there on.
 abbrev pub before : List ℕ → List ℕ → List ℕ → ℕ → ℕ → List ℕ
 before shown ws ns k i = sentWords k shown (take i ws) (take i ns)
 
@@ -73,15 +78,6 @@ sent-split k shown (w ∷ ws) (n ∷ ns) (suc i) m =
     go true = refl
     go false = refl
 
-pub sent-few : (k : ℕ) (shown ws ns : List ℕ) → length (sentWords k shown ws ns) ≤ length ws
-sent-few k shown [] ns = omega arith
-sent-few k shown (w ∷ ws) [] = omega arith
-sent-few k shown (w ∷ ws) (n ∷ ns) = go (sendsOn k shown w n) (sent-few k shown ws ns)
-  where
-    go : (b : Bool) → length (sentWords k shown ws ns) ≤ length ws → length (cons-if b w (sentWords k shown ws ns)) ≤ suc (length ws)
-    go true h = omega arith
-    go false h = omega arith
-
 -- Record i has a number; `high` is the high byte of its word.
 pub record Record (shown ws ns : List ℕ) (i high : ℕ) : Type 0 where
   pub inside : i < length ws
@@ -90,24 +86,24 @@ pub record Record (shown ws ns : List ℕ) (i high : ℕ) : Type 0 where
 
 module _ {shown ws ns : List ℕ} {i high : ℕ} (r : Record shown ws ns i high) where
   next : (k : ℕ) (b : Bool) → k < 64 → (eqb high k && isSent high (getD ns i 0) shown) ≡ b
-      → from shown ws ns k i ≡ cons-if b (getD ws i 0) (from shown ws ns k (i + 1))
+      → from shown ws ns k i ≡ cons-if b (getD ws i 0) (from shown ws ns k (suc i))
   unfolding isSent
   next k b h f =
-      rw (add-one i, drop-cons ws i 0 (r .inside), drop-cons ns i 0 (omega (arith, r .inside, r .numbered)), ← r .high-is, ← f)
+      rw (drop-cons ws i 0 (r .inside), drop-cons ns i 0 (omega (arith, r .inside, r .numbered)), ← r .high-is, ← f)
       (ap (λ (t : Bool). cons-if t (getD ws i 0) (from shown ws ns k (suc i))) (go (eqb high k) refl))
     where
       go : (q : Bool) → eqb high k ≡ q → (q && isIn (getD ns i 0) (getD shown (k / 8) 0)) ≡ (q && isSent high (getD ns i 0) shown)
       go true q = rw (eqb-true high k q, lt-ltb k 64 h)
       go false q = refl
 
-  -- It is no message inside the sender's events shown; or none at place k.
-  pub unsent : isSent high (getD ns i 0) shown ≡ false → (k : ℕ) → k < 64 → from shown ws ns k i ≡ from shown ws ns k (i + 1)
+  -- It is no message inside the sender's events shown; or none at index k.
+  pub unsent : isSent high (getD ns i 0) shown ≡ false → (k : ℕ) → k < 64 → from shown ws ns k i ≡ from shown ws ns k (suc i)
   unsent t k h = next k false h (rw t (and-false (eqb high k)))
 
-  pub elsewhere : (k : ℕ) → k < 64 → eqb high k ≡ false → from shown ws ns k i ≡ from shown ws ns k (i + 1)
+  pub elsewhere : (k : ℕ) → k < 64 → eqb high k ≡ false → from shown ws ns k i ≡ from shown ws ns k (suc i)
   elsewhere k h q = next k false h (rw q)
 
--- It is a message inside the sender's events shown, at the place that its word names.
+-- It is a message inside the sender's events shown, at the channel that its word names.
 pub record Message (shown ws ns : List ℕ) (i high : ℕ) : Type 0 where
   pub at : Record shown ws ns i high
   pub sent : isSent high (getD ns i 0) shown ≡ true
@@ -117,8 +113,8 @@ module _ {shown ws ns : List ℕ} {i high : ℕ} (g : Message shown ws ns i high
   unfolding isSent
   low = ltb-true high 64 (and-left (ltb high 64) (isIn (getD ns i 0) (getD shown (high / 8) 0)) (g .sent))
 
-  pub here : from shown ws ns high i ≡ getD ws i 0 ∷ from shown ws ns high (i + 1)
+  pub here : from shown ws ns high i ≡ getD ws i 0 ∷ from shown ws ns high (suc i)
   here = next (g .at) high true low (rw (g .sent, eq-eqb high high refl))
 
-  pub sent-here : sentWords high shown ws ns ≡ before shown ws ns high i ++ (getD ws i 0 ∷ from shown ws ns high (i + 1))
+  pub sent-here : sentWords high shown ws ns ≡ before shown ws ns high i ++ (getD ws i 0 ∷ from shown ws ns high (suc i))
   sent-here = sent-split high shown ws ns i (g .at .numbered) ∙ ap (λ (xs : List ℕ). before shown ws ns high i ++ xs) here

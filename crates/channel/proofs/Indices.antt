@@ -1,4 +1,4 @@
--- The words of a channel by their places, and the places that have no channel.
+-- The words of a channel by their places, and the indices that have no channel.
 use mathlib.Core.Path.{_≡_, _∙_}
 use mathlib.Core.Bool.{false, and-false}
 use Prim.Native.Nat.{ℕ, _+_, _*_, _/_, _%_, _<_, _≤_, min}
@@ -6,7 +6,7 @@ use native.Mathlib.Omega.{arith}
 use borrow.Author.Tests.{le-ltb}
 use lib.ListN.{length, getD, take, drop, length-take}
 use lib.Seq.{getD-take, take-all}
-use Rattle.channel.specs.Channels.{isChannel, place, lenOf, row, wordsOn}
+use Rattle.channel.specs.Channels.{isChannel, channelIndex, lenOf, row, wordsOn}
 use Rattle.channel.specs.declared.Channels.{Channels}
 use Rattle.channel.proofs.Rows.{row-length, row-at}
 
@@ -27,6 +27,6 @@ pub no-channel : (count k : ℕ) → count * 8 ≤ k → isChannel count k ≡ f
 unfolding isChannel
 no-channel count k h = rw (le-ltb (k / 8) count (omega arith))
 
-pub no-channel-to : (count from j : ℕ) → count ≤ j → j < 8 → isChannel count (place from j) ≡ false
+pub no-channel-to : (count from j : ℕ) → count ≤ j → j < 8 → isChannel count (channelIndex from j) ≡ false
 unfolding isChannel
-no-channel-to count from j h b = rw (le-ltb (place from j % 8) count (omega arith), and-false)
+no-channel-to count from j h b = rw (le-ltb (channelIndex from j % 8) count (omega arith), and-false)
