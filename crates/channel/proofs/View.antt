@@ -55,7 +55,7 @@ word-item word = go (ltb word 512) refl (leb 256 word) refl
 pub item-injective : (v w : ℕ) → itemOf v ≡ itemOf w → v ≡ w
 item-injective v w e = sym (word-item v) ∙ ap wordOf e ∙ word-item w
 
--- The places of two channels are the same where both zones are.
+-- The indices of two channels are the same where both zones are.
 pub channel-index-eq : (i j a b : ℕ) → j < 8 → b < 8 → eqb (channelIndex i j) (channelIndex a b) ≡ eqb i a && eqb j b
 channel-index-eq i j a b hj hb = go (eqb i a) refl (eqb j b) refl
   where

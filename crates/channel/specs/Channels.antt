@@ -30,7 +30,7 @@ Whole l = (length (l .items) ≡ mostWords) × (length (l .lens) ≡ mostChannel
 abbrev pub channelIndex : ℕ → ℕ → ℕ
 channelIndex i j = i * mostZones + j
 
--- Is there a channel at index k on a site of so many zones: "a line for each ordered pair of different zones"?
+-- Is there a channel at index k on a site of so many zones: "a first-in first-out line for each ordered pair of different zones"?
 unfoldable pub isChannel : ℕ → ℕ → Bool
 isChannel count k = ltb (k / mostZones) count && ltb (k % mostZones) count && not (eqb (k / mostZones) (k % mostZones))
 

@@ -3,3 +3,4 @@ pub mod Recorded
 pub mod Three
 pub mod Premises
 pub mod Total
+pub mod Kept

@@ -1,5 +1,5 @@
--- The rows of the table of edges: what is called, and the whole answer that is expected. The runs of a row are written out, by none of the
--- definitions that are called.
+-- The rows of the table of edges: what a row looks at, and the whole answer that is expected. The runs of a row are written out, by none of
+-- the definitions that it looks at.
 use mathlib.Core.Bool.{true, false, cond}
 use mathlib.Core.List.{List, [], _∷_, _++_, map}
 use Prim.Native.Nat.{ℕ, zero, suc, _+_, _-_, _*_, _^_}
@@ -25,7 +25,7 @@ use Rattle.text.specs.Codes.{codes}
 use Rattle.zone.proofs.Examples as zones
 use Rattle.report.specs.Report.{reportText}
 
--- What is called: an answer of the zone part; an opening; a call on a run, its recording or its journal, each after some calls on it; the
+-- What a row looks at: an answer of the zone part; an opening; a call on a run, its recording or its journal, each after some calls on it; the
 -- reading of a journal; the program's text of a journal. A row holds this and not its answer, so that the check computes each run only once.
 pub data RowCall : Type 0 where
   Part : zones.Reply → RowCall

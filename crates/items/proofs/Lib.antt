@@ -1,4 +1,4 @@
 pub mod Counting
-pub mod ChannelStarts
+pub mod ChannelBegins
 pub mod Walking
 pub mod Writing

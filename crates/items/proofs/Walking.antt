@@ -1,5 +1,5 @@
 -- One walk over the records writes all items. The byte list `all` is what shall stand in the lent bytes at the end; what is written is right
--- by it at once, so that a later word spoils no earlier one.
+-- by it at once, so that a later word changes no earlier one.
 use mathlib.Core.Path.{_≡_, refl, sym, _∙_, ap}
 use mathlib.Core.Bool.{Bool, true, false, cond}
 use mathlib.Core.Logic.{_≢_, _⊎_, inl, inr}
@@ -22,9 +22,9 @@ use Rattle.run.proofs.BelowLaws.{split, sum-same, sum-changed, sum-end}
 use Rattle.channel.specs.Channels.{isChannel}
 use Rattle.recording.specs.Layout.{joinBelow}
 use Rattle.recording.specs.InnerRecords.{sentWords}
-use Rattle.items.specs.InnerItems.{isSent, Counted, numberAt, startAt, itemNumber, Starts, wordsAt, allWords}
+use Rattle.items.specs.InnerItems.{isSent, Counted, numberAt, beginAt, itemNumber, Begins, wordsAt, allWords}
 use Rattle.items.proofs.Writing.{number-is, the-items, start-is, all-number}
-use Rattle.items.proofs.ChannelStarts.{start-none, start-next, start-sum, Front, front, before, from, Record, unsent, elsewhere, Message, low, here, sent-here}
+use Rattle.items.proofs.ChannelBegins.{begin-none, begin-next, begin-sum, Front, front, before, from, RecordAt, unsent, elsewhere, Message, low, here, sent-here}
 
 -- A byte is right; setting one right keeps the others so.
 abbrev pub Right : List ℕ → List ℕ → ℕ → Type 0
@@ -67,7 +67,7 @@ module _ {start : ℕ → ℕ} {shown ws ns all out ends : List ℕ} {missing i 
   moved : (k : ℕ) → k < 64 → from shown ws ns k i ≡ from shown ws ns k (suc i) → Ended start shown ws ns ends i k
   moved k h e = ap (λ (xs : List ℕ). getD ends (k + 1) 0 + min (length xs) (start (suc k) - start k)) e ∙ w .end-is k h
 
-  pub walked-unsent : {high : ℕ} → Record shown ws ns i high → isSent high (getD ns i 0) shown ≡ false → Walked start shown ws ns all out ends missing i
+  pub walked-unsent : {high : ℕ} → RecordAt shown ws ns i high → isSent high (getD ns i 0) shown ≡ false → Walked start shown ws ns all out ends missing i
   walked-unsent r t = record {
     size = w .size;
     end-is = λ k h. moved k h (unsent r t k h);
@@ -203,32 +203,32 @@ word-set out ys w at h e =
 
 -- What shall stand in the lent bytes.
 abbrev pub final : ℕ → List ℕ → List ℕ → List ℕ → List ℕ → List ℕ → List ℕ
-final count seen shown ws ns o = wordsBytes (allWords count shown ws ns) ++ drop (2 * startAt count seen 64) o
+final count seen shown ws ns o = wordsBytes (allWords count shown ws ns) ++ drop (2 * beginAt count seen 64) o
 
--- What is known of the records, the starts of the channels and the lent bytes o.
-pub record Known (count : ℕ) (seen shown ws ns starts o : List ℕ) : Type 0 where
+-- What is known of the records, the begins of the channels and the lent bytes o.
+pub record Known (count : ℕ) (seen shown ws ns begins o : List ℕ) : Type 0 where
   pub counted : Counted seen shown ws ns
-  pub begins : Starts 64 starts count seen
+  pub found : Begins 64 begins count seen
   pub room : 2 * length (allWords count shown ws ns) ≤ length o
 
-module _ {count : ℕ} {seen shown ws ns starts o : List ℕ} (z : Known count seen shown ws ns starts o) where
+module _ {count : ℕ} {seen shown ws ns begins o : List ℕ} (z : Known count seen shown ws ns begins o) where
   abbrev at-index : ℕ → List ℕ
   at-index = wordsAt count shown ws ns
 
   abbrev Going : List ℕ → List ℕ → ℕ → ℕ → Type 0
-  Going = Walked (startAt count seen) shown ws ns (final count seen shown ws ns o)
+  Going = Walked (beginAt count seen) shown ws ns (final count seen shown ws ns o)
 
-  start-all : startAt count seen 64 ≡ length (allWords count shown ws ns)
+  begin-all : beginAt count seen 64 ≡ length (allWords count shown ws ns)
   unfolding itemNumber
-  start-all = all-number count seen shown ws ns (z .counted)
+  begin-all = all-number count seen shown ws ns (z .counted)
 
   pub final-size : length (final count seen shown ws ns o) ≡ length o
   final-size = omega (
     arith,
-    length-append (wordsBytes (allWords count shown ws ns)) (drop (2 * startAt count seen 64) o),
+    length-append (wordsBytes (allWords count shown ws ns)) (drop (2 * beginAt count seen 64) o),
     bytes-length (allWords count shown ws ns),
-    length-drop (2 * startAt count seen 64) o,
-    start-all,
+    length-drop (2 * beginAt count seen 64) o,
+    begin-all,
     z .room,
   )
 
@@ -240,32 +240,32 @@ module _ {count : ℕ} {seen shown ws ns starts o : List ℕ} (z : Known count s
       go true = omega arith
       go false = omega arith
 
-  pub walked-none : Going o starts (getD starts 64 0) (length ws)
+  pub walked-none : Going o begins (getD begins 64 0) (length ws)
   walked-none = record {
     size = sym final-size;
     end-is = ended;
-    missing-is = z .begins 64 (omega arith) ∙ missing-is;
+    missing-is = z .found 64 (omega arith) ∙ missing-is;
     behind = behind;
     done = λ k p h s q. absurd (omega (arith, s, q, end-at k h));
   }
     where
-      end-at : (k : ℕ) → k < 64 → getD starts (k + 1) 0 ≡ startAt count seen (suc k)
-      end-at k h = rw (← add-one k) (z .begins (k + 1) (omega arith))
+      end-at : (k : ℕ) → k < 64 → getD begins (k + 1) 0 ≡ beginAt count seen (suc k)
+      end-at k h = rw (← add-one k) (z .found (k + 1) (omega arith))
 
-      ended : (k : ℕ) → k < 64 → Ended (startAt count seen) shown ws ns starts (length ws) k
+      ended : (k : ℕ) → k < 64 → Ended (beginAt count seen) shown ws ns begins (length ws) k
       ended k h = rw (drop-length ws) (omega (arith, end-at k h))
 
-      missing-is : startAt count seen 64 ≡ sumBelow 64 (λ k. getD starts (k + 1) 0 - startAt count seen k)
+      missing-is : beginAt count seen 64 ≡ sumBelow 64 (λ k. getD begins (k + 1) 0 - beginAt count seen k)
       missing-is =
-          start-sum count seen 64
-          ∙ sym (sum-same 64 (numberAt count seen) (λ k. getD starts (k + 1) 0 - startAt count seen k) (λ k h. omega (arith, end-at k h, start-next count seen k)))
+          begin-sum count seen 64
+          ∙ sym (sum-same 64 (numberAt count seen) (λ k. getD begins (k + 1) 0 - beginAt count seen k) (λ k h. omega (arith, end-at k h, begin-next count seen k)))
 
-      behind : (p : ℕ) → 2 * startAt count seen 64 ≤ p → Right (final count seen shown ws ns o) o p
+      behind : (p : ℕ) → 2 * beginAt count seen 64 ≤ p → Right (final count seen shown ws ns o) o p
       behind p h =
           let bytes = wordsBytes (allWords count shown ws ns) in
-          let end = 2 * startAt count seen 64 in
+          let end = 2 * beginAt count seen 64 in
           let e : p ≡ end + (p - end) = omega arith in
-          let f : end ≡ length bytes = omega (arith, bytes-length (allWords count shown ws ns), start-all) in
+          let f : end ≡ length bytes = omega (arith, bytes-length (allWords count shown ws ns), begin-all) in
           ap (λ (x : ℕ). getD o x 0) e
           ∙ sym (getD-append-add bytes (drop end o) (p - end) 0 ∙ getD-drop end o (p - end) 0)
           ∙ ap (λ (x : ℕ). getD (bytes ++ drop end o) x 0) (sym (e ∙ ap (λ (x : ℕ). x + (p - end)) f))
@@ -275,14 +275,14 @@ module _ {count : ℕ} {seen shown ws ns starts o : List ℕ} (z : Known count s
   unfolding allWords
   to-end k h = front at-index (suc k) 64 h
 
-  end-before : (k : ℕ) → k < 64 → startAt count seen (suc k) ≤ length (allWords count shown ws ns)
+  end-before : (k : ℕ) → k < 64 → beginAt count seen (suc k) ≤ length (allWords count shown ws ns)
   end-before k h =
       let f = to-end k h in
       omega (arith, start-is count seen shown ws ns (z .counted) (suc k) h, ap length (f .joined), length-append (joinBelow k at-index ++ at-index k) (f .rest))
 
   -- Word j of channel k among all.
   word-at : (k j : ℕ) → k < 64 → j < length (at-index k)
-      → getD (allWords count shown ws ns) (startAt count seen k + j) 0 ≡ getD (at-index k) j 0
+      → getD (allWords count shown ws ns) (beginAt count seen k + j) 0 ≡ getD (at-index k) j 0
   word-at k j h b =
       let f = to-end k h in
       let first = joinBelow k at-index in
@@ -291,42 +291,42 @@ module _ {count : ℕ} {seen shown ws ns starts o : List ℕ} (z : Known count s
       ∙ getD-append-add first (at-index k) j 0)
 
   -- All of them are within the lent bytes.
-  pub ends : 2 * getD starts 64 0 ≤ length o
-  ends = omega (arith, z .begins 64 (omega arith), start-all, z .room)
+  pub ends : 2 * getD begins 64 0 ≤ length o
+  ends = omega (arith, z .found 64 (omega arith), begin-all, z .room)
 
   pub wrote-all : {out ends : List ℕ} {missing i : ℕ} → Going out ends missing i → missing ≡ 0
-      → Wrote (allWords count shown ws ns) o out (2 * getD starts 64 0)
+      → Wrote (allWords count shown ws ns) o out (2 * getD begins 64 0)
   wrote-all w e =
-      let f = z .begins 64 (omega arith) in
+      let f = z .found 64 (omega arith) in
       record {
-        number = ap (λ (x : ℕ). 2 * x) (f ∙ start-all);
-        bytes = rw f (walked-all w e (start-none count seen));
+        number = ap (λ (x : ℕ). 2 * x) (f ∙ begin-all);
+        bytes = rw f (walked-all w e (begin-none count seen));
       }
 
   -- While an item is missing there is a record further back.
   pub more-records : {out ends : List ℕ} {missing : ℕ} (i : ℕ) → Going out ends missing i → (missing ≡ 0 → ⊥) → 1 ≤ i
   more-records (suc i) w n = omega arith
   more-records {out} {ends} zero w n =
-      absurd (n (w .missing-is ∙ sum-end 0 64 (λ k. getD ends (k + 1) 0 - startAt count seen k) (omega arith)
-      (λ k b h. omega (arith, w .end-is k h, z .counted .sent k h, fewer k, start-next count seen k))))
+      absurd (n (w .missing-is ∙ sum-end 0 64 (λ k. getD ends (k + 1) 0 - beginAt count seen k) (omega arith)
+      (λ k b h. omega (arith, w .end-is k h, z .counted .sent k h, fewer k, begin-next count seen k))))
 
   module _ {out ends : List ℕ} {missing i high : ℕ} (w : Going out ends missing (suc i)) (g : Message shown ws ns i high) where
     abbrev end-here : ℕ
     end-here = getD ends (high + 1) 0
 
-    begin-is : getD starts high 0 ≡ startAt count seen high
-    begin-is = let h = low g in z .begins high (omega arith)
+    begin-is : getD begins high 0 ≡ beginAt count seen high
+    begin-is = let h = low g in z .found high (omega arith)
 
-    rises : startAt count seen high ≤ startAt count seen (suc high)
-    rises = omega (arith, start-next count seen high)
+    rises : beginAt count seen high ≤ beginAt count seen (suc high)
+    rises = omega (arith, begin-next count seen high)
 
     -- A message whose channel is full is passed over.
-    pub walked-received : end-here ≡ getD starts high 0 → Going out ends missing i
+    pub walked-received : end-here ≡ getD begins high 0 → Going out ends missing i
     walked-received e = walked-over w g rises (e ∙ begin-is)
 
     -- Else it is an item.
-    module _ (n : end-here ≡ getD starts high 0 → ⊥) where
-      some-missing : startAt count seen high < end-here
+    module _ (n : end-here ≡ getD begins high 0 → ⊥) where
+      some-missing : beginAt count seen high < end-here
       some-missing = omega (arith, n, begin-is, w .end-is high (low g), rises)
 
       pub item-end : (1 ≤ end-here) × (2 * end-here ≤ length o)
@@ -342,8 +342,8 @@ module _ {count : ℕ} {seen shown ws ns starts o : List ℕ} (z : Known count s
           let passed = before shown ws ns high i in
           let later = from shown ws ns high (suc i) in
           let skip = getD seen (64 + high) 0 in
-          let j = end-here - 1 - startAt count seen high in
-          let x = start-next count seen high in
+          let j = end-here - 1 - beginAt count seen high in
+          let x = begin-next count seen high in
           let m = number-is count seen shown ws ns (z .counted) high h in
           let u = w .end-is high h in
           let s = sent-here g in
@@ -351,7 +351,7 @@ module _ {count : ℕ} {seen shown ws ns starts o : List ℕ} (z : Known count s
           let l = length-drop skip (sentWords high shown ws ns) in
           let p = length-append passed (getD ws i 0 ∷ later) in
           let q : skip + j ≡ length passed = omega (arith, some-missing, x, u, m, ap length d, l, ap length s, p) in
-          let e : end-here - 1 ≡ startAt count seen high + j = omega (arith, some-missing) in
+          let e : end-here - 1 ≡ beginAt count seen high + j = omega (arith, some-missing) in
           ap (λ (y : ℕ). getD (allWords count shown ws ns) y 0) e
           ∙ word-at high j h (omega (arith, some-missing, x, u, m))
           ∙ ap (λ (xs : List ℕ). getD xs j 0) d
@@ -361,7 +361,7 @@ module _ {count : ℕ} {seen shown ws ns starts o : List ℕ} (z : Known count s
       item-bytes : (getD (final count seen shown ws ns o) (2 * (end-here - 1)) 0 ≡ getD ws i 0 / 256)
           × (getD (final count seen shown ws ns o) (2 * (end-here - 1) + 1) 0 ≡ getD ws i 0 % 256)
       item-bytes =
-          rw (← item-is) (bytes-at (allWords count shown ws ns) (drop (2 * startAt count seen 64) o) (end-here - 1)
+          rw (← item-is) (bytes-at (allWords count shown ws ns) (drop (2 * beginAt count seen 64) o) (end-here - 1)
           (omega (arith, some-missing, w .end-is high (low g), end-before high (low g))))
 
       pub walked-written : (ys : List ℕ)

@@ -11,7 +11,7 @@ use Rattle.words.proofs.ByteLaws.{bytes-length, bytes-append}
 use Rattle.words.proofs.WriteLaws.{wrote-more}
 use Rattle.recording.specs.Layout.{joinBelow}
 use Rattle.recording.specs.InnerRecords.{sentWords, takenCount, itemsAt}
-use Rattle.items.specs.InnerItems.{Counted, numberAt, startAt, itemNumber, wordsAt, allWords}
+use Rattle.items.specs.InnerItems.{Counted, numberAt, beginAt, itemNumber, wordsAt, allWords}
 use Rattle.words.specs.InnerWrote.{Wrote}
 use Rattle.channel.specs.Channels.{isChannel}
 
@@ -57,8 +57,8 @@ module _ (count : ℕ) (seen shown ws ns : List ℕ) (c : Counted seen shown ws 
       go false f = absurd (e (rw f))
 
   -- The number of the items before channel k, and of all.
-  pub start-is : (k : ℕ) → k ≤ 64 → startAt count seen k ≡ length (joinBelow k (wordsAt count shown ws ns))
-  unfolding startAt
+  pub start-is : (k : ℕ) → k ≤ 64 → beginAt count seen k ≡ length (joinBelow k (wordsAt count shown ws ns))
+  unfolding beginAt
   start-is zero h = refl
   start-is (suc k) h =
       let q = start-is k (omega arith) in

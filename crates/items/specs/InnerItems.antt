@@ -9,15 +9,16 @@ use Rattle.rules.specs.Below.{sumBelow, listBelow}
 use Rattle.rules.specs.Change.{on}
 use Rattle.recording.specs.Layout.{joinBelow}
 use Rattle.recording.specs.InnerRecords.{isIn, sentWords, takenCount, itemsAt}
-use Rattle.channel.specs.Channels.{isChannel}
+use Rattle.rules.specs.Limits.{mostZones}
+use Rattle.channel.specs.Channels.{mostChannels, isChannel}
 
 -- The index of the zone that acts by a record, of the high byte of its word.
 abbrev pub ownerOf : ℕ → ℕ
-ownerOf high = cond (ltb high 64) (high / 8) (high % 8)
+ownerOf high = cond (ltb high mostChannels) (high / mostZones) (high % mostZones)
 
 -- Is the record a message inside the sender's events shown, by the high byte of its word?
 unfoldable pub isSent : ℕ → ℕ → List ℕ → Bool
-isSent high number shown = ltb high 64 && isIn number (getD shown (high / 8) 0)
+isSent high number shown = ltb high mostChannels && isIn number (getD shown (high / mostZones) 0)
 
 -- Has the record's word this high byte, and is its event inside those shown for the zone that acts by it?
 abbrev pub countsAt : ℕ → List ℕ → ℕ → ℕ → Bool
@@ -34,22 +35,22 @@ counts shown ws ns = listBelow 256 (λ high. countAt high shown ws ns)
 
 -- What these numbers say of channels: of each index, how many messages and how many receipts are inside.
 pub record Counted (seen shown ws ns : List ℕ) : Type 0 where
-  pub sent : (k : ℕ) → k < 64 → getD seen k 0 ≡ length (sentWords k shown ws ns)
-  pub taken : (k : ℕ) → k < 64 → getD seen (64 + k) 0 ≡ takenCount k shown ws ns
+  pub sent : (k : ℕ) → k < mostChannels → getD seen k 0 ≡ length (sentWords k shown ws ns)
+  pub taken : (k : ℕ) → k < mostChannels → getD seen (mostChannels + k) 0 ≡ takenCount k shown ws ns
 
 -- The number of items at index k by these numbers, at the channels before it, and at all.
 unfoldable pub numberAt : ℕ → List ℕ → ℕ → ℕ
-numberAt count seen k = cond (isChannel count k) (getD seen k 0 - getD seen (64 + k) 0) 0
+numberAt count seen k = cond (isChannel count k) (getD seen k 0 - getD seen (mostChannels + k) 0) 0
 
-unfoldable pub startAt : ℕ → List ℕ → ℕ → ℕ
-startAt count seen k = sumBelow k (numberAt count seen)
+unfoldable pub beginAt : ℕ → List ℕ → ℕ → ℕ
+beginAt count seen k = sumBelow k (numberAt count seen)
 
 unfoldable pub itemNumber : ℕ → List ℕ → ℕ
-itemNumber count seen = startAt count seen 64
+itemNumber count seen = beginAt count seen 64
 
 -- A list has, for each channel up to n, the number of items at the channels before it.
-abbrev pub Starts : ℕ → List ℕ → ℕ → List ℕ → Type 0
-Starts n starts count seen = (k : ℕ) → k ≤ n → getD starts k 0 ≡ startAt count seen k
+abbrev pub Begins : ℕ → List ℕ → ℕ → List ℕ → Type 0
+Begins n begins count seen = (k : ℕ) → k ≤ n → getD begins k 0 ≡ beginAt count seen k
 
 -- The words of the items at index k; none where the site has no channel there. Then those of all indices, in order.
 unfoldable pub wordsAt : ℕ → List ℕ → List ℕ → List ℕ → ℕ → List ℕ

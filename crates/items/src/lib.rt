@@ -6,7 +6,7 @@ ghost use lib.ListN.{length, getD};
 ghost use Rattle.rules.specs.Limits.{mostRecords};
 ghost use Rattle.channel.specs.Channels.{mostChannels};
 ghost use Rattle.recording.specs.InnerRecords.{isIn};
-ghost use Rattle.items.specs.InnerItems.{ownerOf, isSent, counts, Counted, numberAt, itemNumber, Starts, allWords};
+ghost use Rattle.items.specs.InnerItems.{ownerOf, isSent, counts, Counted, numberAt, itemNumber, Begins, allWords};
 ghost use Rattle.words.specs.InnerWrote.{Wrote};
 use channel::CHANNELS;
 use rules::ZONES;
@@ -15,7 +15,7 @@ use rules::ZONES;
 pub const HIGH_BYTES: usize = 256;
 
 // A start for each channel, and one behind the last.
-const STARTS: usize = CHANNELS + 1;
+const BEGINS: usize = CHANNELS + 1;
 
 // 1 for an event that is inside the events shown, by its number; else 0.
 fn inside(number: u16, shown: u16) -> u16
@@ -89,25 +89,25 @@ fn number_at(count: u8, seen: &[u16; HIGH_BYTES], k: usize) -> usize
 }
 
 // The number of the items before those of each channel, which is where its words begin; behind the last channel, the number of all.
-fn starts(count: u8, seen: &[u16; HIGH_BYTES]) -> [usize; STARTS]
-    ensures { λ r. ⌜ Starts mostChannels r count (now (seen .entry)) ⌝ }
+fn begins(count: u8, seen: &[u16; HIGH_BYTES]) -> [usize; BEGINS]
+    ensures { λ r. ⌜ Begins mostChannels r count (now (seen .entry)) ⌝ }
 {
-    let mut starts = [0usize; STARTS];
+    let mut begins = [0usize; BEGINS];
     let mut k = 0;
     while k < CHANNELS {
         let n = number_at(count, seen, k);
-        starts[k + 1] = starts[k] + n;
+        begins[k + 1] = begins[k] + n;
         k += 1;
     }
-    starts
+    begins
 }
 
 // The number of items on all channels of the site.
 pub fn number(count: u8, seen: &[u16; HIGH_BYTES]) -> usize
     ensures { λ r. ⌜ r ≡ itemNumber count (now (seen .entry)) ⌝ }
 {
-    let starts = starts(count, seen);
-    starts[CHANNELS]
+    let begins = begins(count, seen);
+    begins[CHANNELS]
 }
 
 // Whether a record is a message inside the sender's events shown, by the high byte of its word and its own-event ordinal.
@@ -141,9 +141,9 @@ pub fn write(
         Wrote (allWords count shown (now (words .entry)) (now (ordinals .entry))) (now (out .entry)) (now (out .exit)) r
         ⌝ }
 {
-    let starts = starts(count, seen);
-    let mut ends = starts;
-    let mut missing = starts[CHANNELS];
+    let begins = begins(count, seen);
+    let mut ends = begins;
+    let mut missing = begins[CHANNELS];
     let mut i = words.len();
     while missing != 0 {
         i -= 1;
@@ -153,12 +153,12 @@ pub fn write(
             continue;
         }
         let end = ends[k + 1];
-        if end == starts[k] {
+        if end == begins[k] {
             continue;
         }
         ends[k + 1] = end - 1;
         missing -= 1;
         words::write_word(&mut out[2 * (end - 1)..], word);
     }
-    2 * starts[CHANNELS]
+    2 * begins[CHANNELS]
 }

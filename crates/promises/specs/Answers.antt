@@ -20,6 +20,6 @@ OpenAnswers terms stocks a = a ≡ openCall (openingAs terms stocks)
 abbrev pub Answers : SiteCall → Run → Answer → Type 0
 Answers c run a = a ≡ answer c run
 
--- The recording call answers w on this run and leaves the bytes where these were lent.
+-- The recording call on this run, lent these bytes, answers w and leaves `bytes` in their stead.
 abbrev pub RecordAnswers : Run → (lent : List ℕ) → Written → (bytes : List ℕ) → Type 0
 RecordAnswers run lent w bytes = (w ≡ recordCall run lent .answer) × (bytes ≡ recordCall run lent .bytes)

@@ -56,7 +56,7 @@ carsOn (request set ∷ l) = carsOn l
 abbrev pub present : Site → Park
 present s = record { stock = λ k. s .zone k .stock; channel = λ i j. carsOn (s .channel i j) }
 
--- A recording: which zones are shown permanent ("firm"), and the events, stocks and channels shown.
+-- A recording: which zones are shown with a permanent checkpoint ("firm"), and the events, stocks and channels shown.
 pub record Snapshot : Type 0 where
   pub recorded : ℕ → Bool
   pub events : ℕ → ℕ

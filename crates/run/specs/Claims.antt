@@ -49,12 +49,13 @@ sendQuestions count records stock len from to cars =
 abbrev pub sendRefusal : (count records stock len from to cars : ℕ) → ℕ
 sendRefusal count records stock len from to cars = refusal (sendQuestions count records stock len from to cars)
 
--- The numbers that a call may answer: 0 and those of its list.
+-- The numbers of a call's own questions.
 abbrev pub ownRefusals : SiteCall → List ℕ
 ownRefusals (Send from to cars) = 7 ∷ 8 ∷ []
 ownRefusals (Receive from to) = 9 ∷ 10 ∷ []
 ownRefusals (Start zone) = 11 ∷ 10 ∷ []
 
+-- The numbers that a call may answer: 0 and those of its list.
 abbrev pub answers : SiteCall → List ℕ
 answers c = 0 ∷ 1 ∷ 5 ∷ 6 ∷ ownRefusals c
 

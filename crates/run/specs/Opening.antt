@@ -10,7 +10,7 @@ use Rattle.rules.specs.Opening as rules
 use Rattle.rules.specs.Questions.{Question, question, ask, isCount}
 use Rattle.rules.specs.Zone.{opened}
 use Rattle.rules.specs.declared.Local.{Local}
-use Rattle.channel.specs.Channels.{channelsAs}
+use Rattle.channel.specs.Channels.{mostChannels, mostWords, channelsAs}
 use Rattle.channel.specs.declared.Channels.{Channels}
 use Rattle.run.specs.State.{runAs}
 use Rattle.run.specs.declared.Answer.{Answer}
@@ -46,7 +46,7 @@ openedHead o = record {
 }
 
 abbrev pub noChannels : Channels
-noChannels = channelsAs (replicate 1024 0) (replicate 64 0)
+noChannels = channelsAs (replicate mostWords 0) (replicate mostChannels 0)
 
 -- The first run with a head: no item on a channel, and no record.
 abbrev pub firstRun : Head → Run

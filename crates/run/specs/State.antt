@@ -5,7 +5,7 @@ use Prim.Native.Nat.{ℕ, _+_, _*_}
 use lib.Dec.{leb}
 use lib.ListN.{getD, set}
 use Rattle.rules.specs.Below.{allBelow, anyBelow, sumBelow}
-use Rattle.rules.specs.Limits.{mostZones, mostCars, mostRecords, places}
+use Rattle.rules.specs.Limits.{mostCars, mostRecords, places}
 use Rattle.rules.specs.Questions.{isCount}
 use Rattle.rules.specs.Sets.{within}
 use Rattle.rules.specs.Site.{Item}
@@ -13,7 +13,7 @@ use Rattle.rules.specs.Zone.{isPermanent}
 use Rattle.rules.specs.declared.Local.{Local}
 use Rattle.rules.specs.declared.Checkpoint.the-variants.{None}
 use Rattle.channel.specs.Words.{carsIn, setIn}
-use Rattle.channel.specs.Channels.{isChannel, lenOf, itemsOn}
+use Rattle.channel.specs.Channels.{mostChannels, isChannel, lenOf, itemsOn}
 use Rattle.channel.specs.declared.Channels.{Channels}
 use Rattle.run.specs.declared.Head.{Head}
 use Rattle.run.specs.declared.Run.{Run}
@@ -63,7 +63,7 @@ unfoldable pub channelSound : Terms → Channels → ℕ → Bool
 channelSound t l k = leb (lenOf l k) places && setsWithin (t .count) (itemsOn l k)
 
 unfoldable pub channelsSound : Terms → Channels → Bool
-channelsSound t l = allBelow (mostZones * mostZones) (λ k. not (isChannel (t .count) k) || channelSound t l k)
+channelsSound t l = allBelow (mostChannels) (λ k. not (isChannel (t .count) k) || channelSound t l k)
 
 -- The cars of a list of items.
 abbrev pub carsOf : List Item → ℕ
@@ -75,7 +75,7 @@ unfoldable pub stocks : Head → ℕ
 stocks h = sumBelow (countOf h) (λ i. zoneAt h i .stock)
 
 unfoldable pub carsOnChannels : ℕ → Channels → ℕ
-carsOnChannels count l = sumBelow (mostZones * mostZones) (λ k. cond (isChannel count k) (carsOf (itemsOn l k)) 0)
+carsOnChannels count l = sumBelow (mostChannels) (λ k. cond (isChannel count k) (carsOf (itemsOn l k)) 0)
 
 -- Question 1 over the parts that it looks at: neither saved values in checkpoints nor storage that the site does not have.
 unfoldable pub partsSound : Head → Channels → Bool

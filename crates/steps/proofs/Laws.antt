@@ -113,15 +113,10 @@ module _ (from to : ℕ) (z : Local) (l : Channels) (started : Bool) (k : ℕ) (
   -- The item that stands first makes `got` of the zone.
   module _ (holds : lenOf l k ≢ 0) (got : Requesting) (takes : got ≡ itemReceived (index from) (index to) (itemOf (firstOf l k)) z) (full : ℕ)
       (search : full ≡ firstFull l (index to) (got .to)) where
-    targets-full : full ≢ 0 → allFree l (index to) (firstReceived (index from) (index to) z l .to) ≡ false
-    targets-full h =
-        subst (λ (n : ℕ). allFree l (index to) (itemReceived (index from) (index to) (itemOf (firstOf l n)) z .to) ≡ false) e
-        (subst (λ (g : Requesting). allFree l (index to) (g .to) ≡ false) takes (some-full l (index to) (got .to) full search h))
-
-    targets-free : full ≡ 0 → allFree l (index to) (firstReceived (index from) (index to) z l .to) ≡ true
-    targets-free h =
-        subst (λ (n : ℕ). allFree l (index to) (itemReceived (index from) (index to) (itemOf (firstOf l n)) z .to) ≡ true) e
-        (subst (λ (g : Requesting). allFree l (index to) (g .to) ≡ true) takes (none-full l (index to) (got .to) full search h))
+    targets-free : (b : Bool) → allFree l (index to) (got .to) ≡ b → allFree l (index to) (firstReceived (index from) (index to) z l .to) ≡ b
+    targets-free b q =
+        subst (λ (n : ℕ). allFree l (index to) (itemReceived (index from) (index to) (itemOf (firstOf l n)) z .to) ≡ b) e
+        (subst (λ (g : Requesting). allFree l (index to) (g .to) ≡ b) takes q)
 
     here : lenOf l (channelIndex (index from) (index to)) ≢ 0
     here = subst (λ (n : ℕ). lenOf l n ≢ 0) e holds
@@ -129,14 +124,14 @@ module _ (from to : ℕ) (z : Local) (l : Channels) (started : Bool) (k : ℕ) (
     pub receive-10 : (o : Effect) → o ≡ unchanged 10 z → full ≢ 0
         → record { effect = o; channels = l } ≡ ownEffect (Receive from to) z l started
     unfolding ownEffect
-    receive-10 o g h = rw (g, ne-eqb _ _ here, targets-full h)
+    receive-10 o g h = rw (g, ne-eqb _ _ here, targets-free false (some-full l (index to) (got .to) full search h))
 
     -- Accepted: the item leaves its channel, and the requests join theirs.
     pub receive-0 : (popping after : Channels) → full ≡ 0 → popping ≡ popped l k
         → after ≡ requestedAll popping (index to) (got .to) (got .carried)
         → record { effect = record { refusal = 0; zone = got .local }; channels = after } ≡ ownEffect (Receive from to) z l started
     unfolding ownEffect
-    receive-0 popping after h p q = rw (q, p, takes, e, ne-eqb _ _ here, targets-free h)
+    receive-0 popping after h p q = rw (q, p, takes, e, ne-eqb _ _ here, targets-free true (none-full l (index to) (got .to) full search h))
 
 module _ (zone : ℕ) (z : Local) (l : Channels) (started : Bool) where
   pub start-11 : (o : Effect) → o ≡ unchanged 11 z → started ≡ true

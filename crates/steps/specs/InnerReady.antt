@@ -1,7 +1,8 @@
 -- A call over the parts of a run: of the zones only the one that acts is passed, and the channels are lent.
 use mathlib.Core.Path.{_≡_}
 use mathlib.Core.Bool.{true}
-use Prim.Native.Nat.{ℕ, _+_, _<_, _≤_}
+use Prim.Native.Nat.{ℕ, _+_, _<_, _≤_, _^_}
+use Rattle.rules.specs.Limits.{mostZones, mostCars, mostRecords}
 use Rattle.rules.specs.Questions.{index, isOn}
 use Rattle.rules.specs.declared.Local.{Local}
 use Rattle.channel.specs.Channels.{channelIndex, lenOf, firstOf}
@@ -27,10 +28,10 @@ pub record Ready (terms : Terms) (records at : ℕ) (z : Local) (l : Channels) :
 
 -- What the effect of a call rests on, so that no count wraps: its zones are on a site, and there is room for what it takes.
 abbrev pub Fits : SiteCall → Local → Channels → Type 0
-Fits (Send from to cars) z l = (isPair 8 from to ≡ true) × (z .events < 1000)
+Fits (Send from to cars) z l = (isPair mostZones from to ≡ true) × (z .events < mostRecords)
 Fits (Receive from to) z l =
-    (isPair 8 from to ≡ true) × (z .events < 1000)
+    (isPair mostZones from to ≡ true) × (z .events < mostRecords)
     × (0 < lenOf l (channelIndex (index from) (index to))
-    → (z .stock + carsIn (itemOf (firstOf l (channelIndex (index from) (index to)))) ≤ 65535)
-    × (setIn (itemOf (firstOf l (channelIndex (index from) (index to)))) < 256))
-Fits (Start zone) z l = isOn 8 zone ≡ true
+    → (z .stock + carsIn (itemOf (firstOf l (channelIndex (index from) (index to)))) ≤ mostCars)
+    × (setIn (itemOf (firstOf l (channelIndex (index from) (index to)))) < 2 ^ mostZones))
+Fits (Start zone) z l = isOn mostZones zone ≡ true

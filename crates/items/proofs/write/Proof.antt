@@ -5,24 +5,24 @@ use native.Mathlib.Omega.{arith}
 use borrow.Author.Needs.{needs}
 use borrow.Author.Tests.{not-true, not-false}
 use lib.ListN.{length, getD, length-take, length-drop}
-use Rattle.items.specs.InnerItems.{startAt}
-use Rattle.items.proofs.ChannelStarts.{Record, Message, low}
+use Rattle.items.specs.InnerItems.{beginAt}
+use Rattle.items.proofs.ChannelBegins.{RecordAt, Message, low}
 use Rattle.items.proofs.Walking.{Walked, Known, final, final-size, ends, back, more-records, walked-none, walked-to, walked-unsent, walked-received, walked-written, item-end, item-room, wrote-all}
 use Rattle.items.proofs.write.Statement.{statement}
 use Rattle.items.proofs.write.Tie as tie
 
 abbrev Inv-loop : tie.InvT-loop
-Inv-loop out₀ count words ordinals seen shown starts ends₀ missing₀ i₀ out ends missing i =
-    (i ≤ length words) × Walked (startAt count seen) shown words ordinals (final count seen shown words ordinals out₀) out ends missing i
+Inv-loop out₀ count words ordinals seen shown begins ends₀ missing₀ i₀ out ends missing i =
+    (i ≤ length words) × Walked (beginAt count seen) shown words ordinals (final count seen shown words ordinals out₀) out ends missing i
 
 abbrev μ-loop : tie.MeasureT-loop
-μ-loop out₀ count words ordinals seen shown starts ends₀ missing₀ i₀ out ends missing i = i
+μ-loop out₀ count words ordinals seen shown begins ends₀ missing₀ i₀ out ends missing i = i
 
--- Landmarks, backwards: the call's arguments, the channels' starts, the round's beginning, the record's high byte, the item found.
-abbrev start : tie.After-starts Inv-loop μ-loop → tie.Start Inv-loop μ-loop
+-- Landmarks, backwards: the call's arguments, the channels' begins, the round's beginning, the record's high byte, the item found.
+abbrev start : tie.After-begins Inv-loop μ-loop → tie.Start Inv-loop μ-loop
 start c = c .before .before .before .before
 
-abbrev begun : tie.At-loop Inv-loop μ-loop → tie.After-starts Inv-loop μ-loop
+abbrev begun : tie.At-loop Inv-loop μ-loop → tie.After-begins Inv-loop μ-loop
 begun c = c .before
 
 abbrev top : tie.After-high-byte Inv-loop μ-loop → tie.At-loop Inv-loop μ-loop
@@ -34,17 +34,17 @@ named c = c .before .before .before
 abbrev found : tie.After-slice-known2 Inv-loop μ-loop → tie.Else2 Inv-loop μ-loop
 found c = c .before .before .before .before
 
-starts-requires : tie.Need-starts-requires Inv-loop μ-loop
-starts-requires c κs = search needs
+begins-requires : tie.Need-begins-requires Inv-loop μ-loop
+begins-requires c κs = search needs
 
 array-read-missing : tie.Need-array-read-missing Inv-loop μ-loop
 array-read-missing c = search needs
 
--- What is known when the starts are.
-known : (c : tie.After-starts Inv-loop μ-loop) →
+-- What is known when the begins are.
+known : (c : tie.After-begins Inv-loop μ-loop) →
     let a = start c .args in
-    Known (a .count) (a .seen .now) (a .t5) (a .words .now) (a .ordinals .now) (c .starts .result) (a .out .now)
-known c = record { counted = start c .pre .1; begins = c .starts .ensures; room = start c .pre .2 }
+    Known (a .count) (a .seen .now) (a .t5) (a .words .now) (a .ordinals .now) (c .begins .result) (a .out .now)
+known c = record { counted = start c .pre .1; found = c .begins .ensures; room = start c .pre .2 }
 
 loop-holds : tie.Need-loop-holds Inv-loop μ-loop
 loop-holds c = (omega arith, walked-none (known c))
@@ -85,14 +85,14 @@ is-sent-requires c κs = search needs
 walked : (c : tie.After-high-byte Inv-loop μ-loop) →
     let t = top c in
     let a = start (begun t) .args in
-    Walked (startAt (a .count) (a .seen .now)) (a .t5) (a .words .now) (a .ordinals .now)
+    Walked (beginAt (a .count) (a .seen .now)) (a .t5) (a .words .now) (a .ordinals .now)
     (final (a .count) (a .seen .now) (a .t5) (a .words .now) (a .ordinals .now) (a .out .now)) (t .loop .out) (t .loop .ends) (t .loop .missing)
     (suc (t .loop .i - 1))
 walked c = walked-to (top c .loop .inv .1) (more (c .before .before))
 
 at : (c : tie.After-high-byte Inv-loop μ-loop) →
     let a = start (begun (top c)) .args in
-    Record (a .t5) (a .words .now) (a .ordinals .now) (top c .loop .i - 1) (c .high-byte .result)
+    RecordAt (a .t5) (a .words .now) (a .ordinals .now) (top c .loop .i - 1) (c .high-byte .result)
 at c = record { inside = behind (c .before .before) .0; numbered = start (begun (top c)) .pre .0; high-is = c .high-byte .ensures .0 }
 
 message : (c : tie.Else1 Inv-loop μ-loop) →
@@ -206,7 +206,7 @@ write-spec =
     (tie.spec
     Inv-loop
     μ-loop
-    starts-requires
+    begins-requires
     array-read-missing
     loop-holds
     sub-i

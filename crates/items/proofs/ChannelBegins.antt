@@ -16,33 +16,33 @@ use Rattle.rules.proofs.Tests.{and-left}
 use Rattle.run.proofs.BelowLaws.{split}
 use Rattle.recording.specs.Layout.{joinBelow}
 use Rattle.recording.specs.InnerRecords.{isIn, sendsOn, sentWords}
-use Rattle.items.specs.InnerItems.{isSent, numberAt, startAt, Starts}
+use Rattle.items.specs.InnerItems.{isSent, numberAt, beginAt, Begins}
 
 -- The number of the items before a channel.
 module _ (count : ℕ) (seen : List ℕ) where
-  pub start-none : startAt count seen 0 ≡ 0
-  unfolding startAt
-  start-none = refl
+  pub begin-none : beginAt count seen 0 ≡ 0
+  unfolding beginAt
+  begin-none = refl
 
-  pub start-next : (k : ℕ) → startAt count seen (suc k) ≡ startAt count seen k + numberAt count seen k
-  unfolding startAt
-  start-next k = refl
+  pub begin-next : (k : ℕ) → beginAt count seen (suc k) ≡ beginAt count seen k + numberAt count seen k
+  unfolding beginAt
+  begin-next k = refl
 
-  pub start-sum : (k : ℕ) → startAt count seen k ≡ sumBelow k (numberAt count seen)
-  unfolding startAt
-  start-sum k = refl
+  pub begin-sum : (k : ℕ) → beginAt count seen k ≡ sumBelow k (numberAt count seen)
+  unfolding beginAt
+  begin-sum k = refl
 
-  pub starts-none : (starts : List ℕ) → getD starts 0 0 ≡ 0 → Starts 0 starts count seen
-  starts-none starts e k h = let z : k ≡ 0 = omega arith in rw z (e ∙ sym start-none)
+  pub begins-none : (begins : List ℕ) → getD begins 0 0 ≡ 0 → Begins 0 begins count seen
+  begins-none begins e k h = let z : k ≡ 0 = omega arith in rw z (e ∙ sym begin-none)
 
-  pub starts-more : (starts : List ℕ) (k n : ℕ) → k + 1 < length starts → n ≡ numberAt count seen k → Starts k starts count seen
-      → Starts (k + 1) (set starts (k + 1) (getD starts k 0 + n)) count seen
-  starts-more starts k n b e s j h = go (split j (k + 1) (omega arith))
+  pub begins-more : (begins : List ℕ) (k n : ℕ) → k + 1 < length begins → n ≡ numberAt count seen k → Begins k begins count seen
+      → Begins (k + 1) (set begins (k + 1) (getD begins k 0 + n)) count seen
+  begins-more begins k n b e s j h = go (split j (k + 1) (omega arith))
     where
-      go : (j < k + 1) ⊎ (j ≡ k + 1) → getD (set starts (k + 1) (getD starts k 0 + n)) j 0 ≡ startAt count seen j
-      go (inl l) = getD-set-other starts (k + 1) j (getD starts k 0 + n) 0 (λ (q : j ≡ k + 1). omega arith) ∙ s j (omega arith)
+      go : (j < k + 1) ⊎ (j ≡ k + 1) → getD (set begins (k + 1) (getD begins k 0 + n)) j 0 ≡ beginAt count seen j
+      go (inl l) = getD-set-other begins (k + 1) j (getD begins k 0 + n) 0 (λ (q : j ≡ k + 1). omega arith) ∙ s j (omega arith)
       go (inr q) =
-          rw (q, getD-set-same starts (k + 1) (getD starts k 0 + n) 0 b, s k (omega arith), e, add-one k) (sym (start-next k))
+          rw (q, getD-set-same begins (k + 1) (getD begins k 0 + n) 0 b, s k (omega arith), e, add-one k) (sym (begin-next k))
 
 -- Lists one after another: those of the channels before k stand in front.
 pub record Front (xs all : List ℕ) : Type 0 where
@@ -78,13 +78,13 @@ sent-split k shown (w ∷ ws) (n ∷ ns) (suc i) m =
     go true = refl
     go false = refl
 
--- Record i has a number; `high` is the high byte of its word.
-pub record Record (shown ws ns : List ℕ) (i high : ℕ) : Type 0 where
+-- RecordAt i has a number; `high` is the high byte of its word.
+pub record RecordAt (shown ws ns : List ℕ) (i high : ℕ) : Type 0 where
   pub inside : i < length ws
   pub numbered : length ns ≡ length ws
   pub high-is : high ≡ getD ws i 0 / 256
 
-module _ {shown ws ns : List ℕ} {i high : ℕ} (r : Record shown ws ns i high) where
+module _ {shown ws ns : List ℕ} {i high : ℕ} (r : RecordAt shown ws ns i high) where
   next : (k : ℕ) (b : Bool) → k < 64 → (eqb high k && isSent high (getD ns i 0) shown) ≡ b
       → from shown ws ns k i ≡ cons-if b (getD ws i 0) (from shown ws ns k (suc i))
   unfolding isSent
@@ -105,7 +105,7 @@ module _ {shown ws ns : List ℕ} {i high : ℕ} (r : Record shown ws ns i high)
 
 -- It is a message inside the sender's events shown, at the channel that its word names.
 pub record Message (shown ws ns : List ℕ) (i high : ℕ) : Type 0 where
-  pub at : Record shown ws ns i high
+  pub at : RecordAt shown ws ns i high
   pub sent : isSent high (getD ns i 0) shown ≡ true
 
 module _ {shown ws ns : List ℕ} {i high : ℕ} (g : Message shown ws ns i high) where
