@@ -29,7 +29,7 @@ static void put(uint8_t from, uint8_t to, item i)
 }
 
 /* A request to each zone of the answer's set. */
-static void ask(uint8_t from, cut_step r)
+static void send_requests(uint8_t from, cut_step r)
 {
     uint32_t n = zone_requests(r.to);
     uint8_t rest = r.to;
@@ -56,7 +56,7 @@ static void receive(uint8_t from, uint8_t to)
     must(r.refusal == 0, "receive");
     first[from][to]++;
     zones[to] = r.zone;
-    ask(to, r);
+    send_requests(to, r);
 }
 
 int main(void)
@@ -73,7 +73,7 @@ int main(void)
     cut_step r = zone_start(zones[1]);
     must(r.refusal == 0, "start");
     zones[1] = r.zone;
-    ask(1, r);
+    send_requests(1, r);
     send(1, 3, 2);
     receive(1, 3);
     receive(1, 2);

@@ -212,7 +212,7 @@ thousand =
 abbrev pub alone : Run
 alone = twoWith (zone 5 1 0 (permanent 5 0) ∷ zone 7 2 0 None ∷ []) [] (0x8000 ∷ [])
 
--- Zone 1 is shown permanent ("firm") with 0 events and stock 5, zone 2 with 0 events and stock 7.
+-- Zone 1 is shown with a permanent checkpoint ("firm"), 0 events and stock 5, zone 2 with 0 events and stock 7.
 abbrev pub recordingAlone : List ℕ
 recordingAlone = 0x24 ∷ 0x00 ∷ 0x80 ∷ 0x00 ∷ 0x00 ∷ 0x05 ∷ 0x00 ∷ 0x00 ∷ 0x00 ∷ 0x07 ∷ []
 

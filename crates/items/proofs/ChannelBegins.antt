@@ -78,7 +78,7 @@ sent-split k shown (w ∷ ws) (n ∷ ns) (suc i) m =
     go true = refl
     go false = refl
 
--- RecordAt i has a number; `high` is the high byte of its word.
+-- Record i has an ordinal; `high` is the high byte of its word.
 pub record RecordAt (shown ws ns : List ℕ) (i high : ℕ) : Type 0 where
   pub inside : i < length ws
   pub numbered : length ns ≡ length ws

@@ -18,13 +18,13 @@ ownerOf high = cond (ltb high mostChannels) (high / mostZones) (high % mostZones
 
 -- Is the record a message inside the sender's events shown, by the high byte of its word?
 unfoldable pub isSent : ℕ → ℕ → List ℕ → Bool
-isSent high number shown = ltb high mostChannels && isIn number (getD shown (high / mostZones) 0)
+isSent high ordinal shown = ltb high mostChannels && isIn ordinal (getD shown (high / mostZones) 0)
 
 -- Has the record's word this high byte, and is its event inside those shown for the zone that acts by it?
 abbrev pub countsAt : ℕ → List ℕ → ℕ → ℕ → Bool
-countsAt high shown w number = eqb (w / 256) high && isIn number (getD shown (ownerOf high) 0)
+countsAt high shown w ordinal = eqb (w / 256) high && isIn ordinal (getD shown (ownerOf high) 0)
 
--- The number of such records, over some records and their numbers; then that number for each high byte.
+-- The number of such records, over some records and their ordinals; then that number for each high byte.
 abbrev pub countAt : ℕ → List ℕ → List ℕ → List ℕ → ℕ
 countAt high shown [] ns = 0
 countAt high shown (w ∷ ws) [] = 0

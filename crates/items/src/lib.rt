@@ -17,11 +17,11 @@ pub const HIGH_BYTES: usize = 256;
 // A start for each channel, and one behind the last.
 const BEGINS: usize = CHANNELS + 1;
 
-// 1 for an event that is inside the events shown, by its number; else 0.
-fn inside(number: u16, shown: u16) -> u16
-    ensures { λ r. ⌜ (r ≡ cond (isIn number shown) 1 0) × (r ≤ 1) ⌝ }
+// 1 for an event that is inside the events shown, by its ordinal; else 0.
+fn inside(ordinal: u16, shown: u16) -> u16
+    ensures { λ r. ⌜ (r ≡ cond (isIn ordinal shown) 1 0) × (r ≤ 1) ⌝ }
 {
-    if (1 <= number) & (number <= shown) {
+    if (1 <= ordinal) & (ordinal <= shown) {
         return 1;
     }
     0
@@ -48,7 +48,7 @@ fn shown_for(shown: &[u16; ZONES], high: usize) -> u16
 
 // The records that are inside the events shown, counted by the high byte of their word: messages sent on the channel at index k stand
 // at k, receipts on it at 64 + k. Each of the at most 1,000 records has its own-event ordinal. `counted-of` (crates/items/proofs) says
-// that these are the numbers for which `write` asks.
+// that these are the numbers that `write` requires.
 pub fn counted(words: &[u16], ordinals: &[u16], shown: [u16; ZONES]) -> [u16; HIGH_BYTES]
     requires { ⌜ (length (now words) ≤ mostRecords) × (length (now ordinals) ≡ length (now words)) ⌝ }
     ensures { λ r. ⌜ r ≡ counts shown (now (words .entry)) (now (ordinals .entry)) ⌝ }
@@ -56,10 +56,10 @@ pub fn counted(words: &[u16], ordinals: &[u16], shown: [u16; ZONES]) -> [u16; HI
     let mut seen = [0u16; HIGH_BYTES];
     for i in 0..words.len() {
         let word = words[i];
-        let number = ordinals[i];
+        let ordinal = ordinals[i];
         let high = high_byte(word);
         let limit = shown_for(&shown, high);
-        let one = inside(number, limit);
+        let one = inside(ordinal, limit);
         seen[high] = seen[high] + one;
     }
     seen
@@ -111,13 +111,13 @@ pub fn number(count: u8, seen: &[u16; HIGH_BYTES]) -> usize
 }
 
 // Whether a record is a message inside the sender's events shown, by the high byte of its word and its own-event ordinal.
-fn is_sent(high: usize, number: u16, shown: &[u16; ZONES]) -> bool
-    ensures { λ r. ⌜ r ≡ isSent high number (now (shown .entry)) ⌝ }
+fn is_sent(high: usize, ordinal: u16, shown: &[u16; ZONES]) -> bool
+    ensures { λ r. ⌜ r ≡ isSent high ordinal (now (shown .entry)) ⌝ }
 {
     if CHANNELS <= high {
         return false;
     }
-    inside(number, shown[high / ZONES]) != 0
+    inside(ordinal, shown[high / ZONES]) != 0
 }
 
 // The words of all items, by sender, then receiver, then order sent, from the front of the lent bytes on. What `counted` counted of these

@@ -6,20 +6,22 @@ use Prim.Native.Nat.{ℕ, suc, _+_, _/_, _%_}
 use lib.Dec.{leb, eqb}
 use lib.ListN.{drop, getD}
 use Rattle.rules.specs.Change.{on, cons-if}
+use Rattle.rules.specs.Limits.{mostZones}
+use Rattle.channel.specs.Channels.{mostChannels}
 
--- Is the event with this number inside the events shown? A record that is no own event has the number 0.
+-- Is the event with this ordinal inside the events shown? A record that is no own event has the ordinal 0.
 abbrev pub isIn : ℕ → ℕ → Bool
-isIn number shown = leb 1 number && leb number shown
+isIn ordinal shown = leb 1 ordinal && leb ordinal shown
 
 -- Is the record a message sent on the channel at index k, inside the sender's events; a receipt on it, inside the receiver's? The high
 -- byte of a record's word is its kind and its channel's index.
 abbrev pub sendsOn : ℕ → List ℕ → ℕ → ℕ → Bool
-sendsOn k shown w number = eqb (w / 256) k && isIn number (getD shown (k / 8) 0)
+sendsOn k shown w ordinal = eqb (w / 256) k && isIn ordinal (getD shown (k / mostZones) 0)
 
 abbrev pub takesOn : ℕ → List ℕ → ℕ → ℕ → Bool
-takesOn k shown w number = eqb (w / 256) (64 + k) && isIn number (getD shown (k % 8) 0)
+takesOn k shown w ordinal = eqb (w / 256) (mostChannels + k) && isIn ordinal (getD shown (k % mostZones) 0)
 
--- The words of the messages, and the number of the receipts, over some records and their numbers.
+-- The words of the messages, and the number of the receipts, over some records and their ordinals.
 abbrev pub sentWords : ℕ → List ℕ → List ℕ → List ℕ → List ℕ
 sentWords k shown [] ns = []
 sentWords k shown (w ∷ ws) [] = []

@@ -33,7 +33,7 @@ use Rattle.rules.proofs.Shown.{checkpointed-once, zone-events, starting
 same-initiator : {o : Option ℕ} {a b : ℕ} → o ≡ some a → o ≡ some b → a ≡ b
 same-initiator e f = cc
 
--- A zone that is not shown permanent ("firm") is shown as it was opened.
+-- A zone that is not shown with a permanent checkpoint ("firm") is shown as it was opened.
 not-shown : (c : Checkpoint) (opening : ℕ) → isPermanent c ≡ false → (eventsOf c ≡ 0) × (stockOf c opening ≡ opening)
 not-shown None opening e = (refl, refl)
 not-shown (Mutable s) opening e = (refl, refl)

@@ -1,4 +1,4 @@
--- A change at one place of a site or a park.
+-- A change at one zone or channel of a site or a park.
 use mathlib.Core.Bool.{Bool, true, false}
 use mathlib.Core.List.{List, [], _∷_, _++_}
 

@@ -33,11 +33,11 @@ mul-word c = search needs
 shared-slice-read-word : tie.Need-shared-slice-read-word Inv-loop μ-loop
 shared-slice-read-word c = search needs
 
-mul-number : tie.Need-mul-number Inv-loop μ-loop
-mul-number c = search needs
+mul-ordinal : tie.Need-mul-ordinal Inv-loop μ-loop
+mul-ordinal c = search needs
 
-shared-slice-read-number : tie.Need-shared-slice-read-number Inv-loop μ-loop
-shared-slice-read-number c = search needs
+shared-slice-read-ordinal : tie.Need-shared-slice-read-ordinal Inv-loop μ-loop
+shared-slice-read-ordinal c = search needs
 
 high-byte-requires : tie.Need-high-byte-requires Inv-loop μ-loop
 high-byte-requires c κs = search needs
@@ -95,8 +95,8 @@ counted-spec =
     loop-holds
     mul-word
     shared-slice-read-word
-    mul-number
-    shared-slice-read-number
+    mul-ordinal
+    shared-slice-read-ordinal
     high-byte-requires
     shown-for-requires
     inside-requires
