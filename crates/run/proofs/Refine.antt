@@ -25,7 +25,7 @@ use Rattle.channel.specs.Words.{itemOf, messageWord}
 use Rattle.channel.specs.Channels.{Whole, channelIndex, lenOf, itemsOn, pushed, popped, firstOf, freeBelow, allFree, requestedAll}
 use Rattle.channel.specs.declared.Channels.{Channels}
 use Rattle.channel.proofs.View.{item-message, pop-whole, items-first, items-pushed, items-popped, len-pop-other, requested-items}
-use Rattle.run.specs.State.{noLocal, zoneAt, hasStarted, countOf, putBack}
+use Rattle.run.specs.State.{noLocal, locals, zoneAt, hasStarted, countOf, putBack}
 use Rattle.run.specs.Calls.{accepted, itemReceived, answer, granted, recordOf}
 use Rattle.run.specs.Model.{siteOf}
 use Rattle.run.specs.Lists.{callOf, isAccepted}
@@ -54,7 +54,7 @@ set-on xs a g k d h = go (same? k a)
 
 -- Zone a changes by g, and each channel of the site by its change.
 site-changed : (r : Run) (a : ℕ) (l : Channels) (word : ℕ) (g : Local → Local) (change : ℕ → ℕ → List Item → List Item)
-    → length (r .head .zones) ≡ 8 → countOf (r .head) ≤ 8 → a < countOf (r .head)
+    → length (locals (r .head)) ≡ 8 → countOf (r .head) ≤ 8 → a < countOf (r .head)
     → ((i j : ℕ) → onSite (countOf (r .head)) i j ≡ true → itemsOn l (channelIndex i j) ≡ change i j (itemsOn (r .channels) (channelIndex i j)))
     → ((i j : ℕ) → onSite (countOf (r .head)) i j ≡ false → change i j [] ≡ [])
     → siteOf (accepted r a (g (zoneAt (r .head) a)) l word .run)
@@ -65,7 +65,7 @@ site-changed r a l word g change w m h inner outer =
     zone : (k : ℕ) (p : Bool) → ltb k (countOf (r .head)) ≡ p
         → cond p (zoneAt (putBack (r .head) a (g (zoneAt (r .head) a)) (r .head .records + 1)) k) (opened k 0)
         ≡ on (eqb k a) g (cond p (zoneAt (r .head) k) (opened k 0))
-    zone k true e = set-on (r .head .zones) a g k noLocal (omega arith)
+    zone k true e = set-on (locals (r .head)) a g k noLocal (omega arith)
     zone k false e = let b = ltb-false k (countOf (r .head)) e in rw (ne-eqb k a (λ q. omega arith))
 
     channel : (i j : ℕ) (p : Bool) → onSite (countOf (r .head)) i j ≡ p

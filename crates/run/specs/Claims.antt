@@ -8,7 +8,7 @@ use Rattle.rules.specs.Change.{cons-if}
 use Rattle.rules.specs.Limits.{mostZones, mostRecords, places}
 use Rattle.rules.specs.Questions.{Question, question, refusal}
 use Rattle.channel.specs.Channels.{Whole}
-use Rattle.run.specs.State.{countOf, stocks, carsOnChannels}
+use Rattle.run.specs.State.{locals, countOf, stocks, carsOnChannels}
 use Rattle.run.specs.Calls.{isPair, recordOf, answer}
 use Rattle.run.specs.Lists.{isAccepted}
 use Rattle.run.specs.declared.Run.{Run}
@@ -17,7 +17,7 @@ use Rattle.run.specs.declared.SiteCall.the-variants.{Send, Receive, Star
 
 -- The lists of a run have the lengths of its arrays: true of every value of the type.
 pub record WholeRun (r : Run) : Type 0 where
-  pub zones : length (r .head .zones) ≡ mostZones
+  pub zones : length (locals (r .head)) ≡ mostZones
   pub opening : length (r .head .opening .stocks) ≡ mostZones
   pub channels : Whole (r .channels)
   pub journal : length (r .journal) ≡ mostRecords

@@ -12,7 +12,7 @@ use Rattle.rules.specs.Zone.{opened}
 use Rattle.rules.specs.declared.Local.{Local}
 use Rattle.channel.specs.Channels.{mostChannels, mostWords, channelsAs}
 use Rattle.channel.specs.declared.Channels.{Channels}
-use Rattle.run.specs.State.{runAs}
+use Rattle.run.specs.State.{headAs, runAs}
 use Rattle.run.specs.declared.Answer.{Answer}
 use Rattle.run.specs.declared.Head.{Head}
 use Rattle.run.specs.declared.Opening.{Opening}
@@ -39,11 +39,7 @@ abbrev pub openedZones : Opening → List Local
 openedZones o = listBelow mostZones (λ i. opened i (stockAt o i))
 
 abbrev pub openedHead : Opening → Head
-openedHead o = record {
-  opening = record { terms = o .terms; stocks = listBelow mostZones (stockAt o) };
-  records = 0;
-  zones = openedZones o;
-}
+openedHead o = headAs (openingAs (o .terms) (listBelow mostZones (stockAt o))) 0 (openedZones o)
 
 abbrev pub noChannels : Channels
 noChannels = channelsAs (replicate mostWords 0) (replicate mostChannels 0)

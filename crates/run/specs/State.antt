@@ -24,8 +24,13 @@ use Rattle.run.specs.declared.Opening.{Opening}
 abbrev pub runAs : Head → Channels → List ℕ → Run
 runAs head channels journal = record { head = head; channels = channels; journal = journal }
 
+-- A head of its opening, a number of records, and its zones by index; and these zones of a head. How the zones are stored is said here and
+-- in the code beside `Head` alone.
 abbrev pub headAs : Opening → ℕ → List Local → Head
 headAs opening records zones = record { opening = opening; records = records; zones = zones }
+
+abbrev pub locals : Head → List Local
+locals h = h .zones
 
 -- The terms and the zone count of a head.
 abbrev pub termsOf : Head → Terms
@@ -41,10 +46,10 @@ noLocal = record { stock = 0; deps = 0; events = 0; checkpoint = None }
 -- The zone at an index, and the head with a zone put back there beside a number of records: a zone of a run is looked
 -- at and put back by these two alone.
 abbrev pub zoneAt : Head → ℕ → Local
-zoneAt h i = getD (h .zones) i noLocal
+zoneAt h i = getD (locals h) i noLocal
 
 abbrev pub putBack : Head → ℕ → Local → ℕ → Head
-putBack h i z records = record { opening = h .opening; records = records; zones = set (h .zones) i z }
+putBack h i z records = headAs (h .opening) records (set (locals h) i z)
 
 -- "no zone with more own events than there are records, every set naming only zones of the site": a zone's own part.
 unfoldable pub localSound : ℕ → ℕ → Local → Bool

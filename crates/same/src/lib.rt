@@ -69,8 +69,8 @@ fn same_zones(count: u8, a: Head, b: Head) -> bool
     requires { ⌜ count ≤ mostZones ⌝ }
     ensures { λ r. ⌜ r ≡ sameZones count a b ⌝ }
 {
-    let xs = a.zones;
-    let ys = b.zones;
+    let xs = run::locals(a);
+    let ys = run::locals(b);
     let mut same = true;
     let mut i = 0;
     while i < count as usize {

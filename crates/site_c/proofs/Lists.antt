@@ -13,7 +13,7 @@ use Rattle.rules.specs.declared.Checkpoint.the-variants.{None, Mutable, Permane
 use Rattle.rules.specs.declared.Local.{Local}
 use Rattle.run.specs.Claims.{WholeRun}
 use Rattle.run.specs.Lists.{after}
-use Rattle.run.specs.State.{noLocal}
+use Rattle.run.specs.State.{locals, noLocal}
 use Rattle.run.specs.Calls.{answer}
 use Rattle.run.specs.declared.Run.{Run}
 use Rattle.run.proofs.BelowLaws.{all-of, length-below, list-at}
@@ -57,7 +57,7 @@ kinds zones = all-of 8 (λ i. leb (plainAt (plainLocals zones) i .mark) 2) at
     at i h = rw (list-at 8 (λ i. plainLocal (getD zones i noLocal)) noPlain i h) (kind-at (getD zones i noLocal .checkpoint))
 
 pub run-back : (r : Run) → WholeRun r → runOf (plainRun r) ≡ r
-run-back r w = rw (locals-back (r .head .zones) (w .zones))
+run-back r w = rw (locals-back (locals (r .head)) (w .zones))
 
 told : (c : SiteCall) (r : Run) → answerPlain (plainRun r) (answer c r) ≡ plainAnswer (answer c r)
 unfolding answerPlain
@@ -69,7 +69,7 @@ told c r = go (eqb (answer c r .refusal) 0) refl
 
 pub call-plain : (c : SiteCall) (r : Run) → WholeRun r → callPlain c (plainRun r) ≡ plainAnswer (answer c r)
 unfolding callPlain
-call-plain c r w = rw (kinds (r .head .zones), run-back r w) (told c r)
+call-plain c r w = rw (kinds (locals (r .head)), run-back r w) (told c r)
 
 pub calls-plain : (cs : List SiteCall) (r : Run) → WholeRun r → afterPlain cs (plainRun r) ≡ plainRun (after cs r)
 calls-plain [] r w = refl
@@ -85,8 +85,8 @@ module _ (count : ℕ) (stocks : List ℕ) (cs : List SiteCall) where
 
 pub record-plain : (r : Run) (lent : List ℕ) → WholeRun r → recordPlain (plainRun r) lent ≡ outputOf (recordCall r lent)
 unfolding recordPlain
-record-plain r lent w = rw (kinds (r .head .zones), run-back r w)
+record-plain r lent w = rw (kinds (locals (r .head)), run-back r w)
 
 pub write-plain : (r : Run) (lent : List ℕ) → WholeRun r → writePlain (plainRun r) lent ≡ outputOf (writeCall r lent)
 unfolding writePlain
-write-plain r lent w = rw (kinds (r .head .zones), run-back r w)
+write-plain r lent w = rw (kinds (locals (r .head)), run-back r w)

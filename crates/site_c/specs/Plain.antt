@@ -7,7 +7,7 @@ use lib.ListN.{getD}
 use Rattle.rules.specs.Below.{allBelow, listBelow}
 use Rattle.rules.specs.Limits.{mostZones}
 use Rattle.rules.specs.declared.Local.{Local}
-use Rattle.run.specs.State.{countOf, noLocal}
+use Rattle.run.specs.State.{headAs, locals, countOf, noLocal}
 use Rattle.run.specs.declared.Answer.{Answer}
 use Rattle.run.specs.declared.Run.{Run}
 use Rattle.journal.specs.Reading.{readCall}
@@ -59,17 +59,13 @@ unfoldable pub areKinds : List PlainLocal → Bool
 areKinds zones = allBelow mostZones (λ i. leb (plainAt zones i .mark) 2)
 
 abbrev pub headOf : PlainHead → Head
-headOf p = record {
-  opening = openingAs (termsAs (p .count)) (p .opening);
-  records = p .records;
-  zones = localsOf (p .zones);
-}
+headOf p = headAs (openingAs (termsAs (p .count)) (p .opening)) (p .records) (localsOf (p .zones))
 
 abbrev pub plainHead : Head → PlainHead
 plainHead h = record {
   count = countOf h;
   records = h .records;
-  zones = plainLocals (h .zones);
+  zones = plainLocals (locals h);
   opening = h .opening .stocks;
 }
 

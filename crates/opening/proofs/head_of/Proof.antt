@@ -1,5 +1,5 @@
 -- `opening::head_of` meets its contract; each read and each call is allowed by search.
-use mathlib.Core.Path.{_≡_, sym}
+use mathlib.Core.Path.{_≡_, sym, _∙_}
 use lib.ListN.{length}
 use Rattle.opening.proofs.Laws.{all-indices}
 use borrow.Author.Needs.{needs}
@@ -11,7 +11,8 @@ eight c = search needs
 
 returns : tie.Need-returns
 returns c =
-    let c7 = c .before in
+    let c8 = c .before in
+    let c7 = c8 .before in
     let c6 = c7 .before in
     let c5 = c6 .before in
     let c4 = c5 .before in
@@ -19,7 +20,8 @@ returns c =
     let c2 = c3 .before in
     let c1 = c2 .before in
     let c0 = c1 .before in
-    rw (
+    c .head-as .ensures
+    ∙ rw (
       c1 .«open» .ensures,
       c2 .open2 .ensures,
       c3 .open3 .ensures,
@@ -27,7 +29,7 @@ returns c =
       c5 .open5 .ensures,
       c6 .open6 .ensures,
       c7 .open7 .ensures,
-      c .open8 .ensures,
+      c8 .open8 .ensures,
       sym (all-indices (c0 .before .args .opening .stocks) (eight c0)),
     )
 
@@ -50,5 +52,6 @@ head-of-spec =
     (λ c. search needs)
     (λ c κs. search needs)
     (λ c. search needs)
+    (λ c κs. search needs)
     (λ c κs. search needs)
     returns)

@@ -1,4 +1,5 @@
 -- `site_c::head_of` meets its contract.
+use mathlib.Core.Path.{_∙_}
 use borrow.Author.Needs.{needs}
 use Rattle.site_c.proofs.head_of.Statement.{statement}
 use Rattle.site_c.proofs.head_of.Tie as tie
@@ -6,8 +7,11 @@ use Rattle.site_c.proofs.head_of.Tie as tie
 locals-of-requires : tie.Need-locals-of-requires
 locals-of-requires c κs = search needs
 
+head-as-requires : tie.Need-head-as-requires
+head-as-requires c κs = search needs
+
 returns : tie.Need-returns
-returns c = rw (c .before .locals-of .ensures)
+returns c = c .head-as .ensures ∙ rw (c .before .before .locals-of .ensures)
 
 pub head-of-spec : {M : Type 1} → statement M
-head-of-spec = tie.close (tie.spec locals-of-requires returns)
+head-of-spec = tie.close (tie.spec locals-of-requires head-as-requires returns)
