@@ -13,7 +13,7 @@ use Rattle.run.specs.Opening.{openingOf}
 use Rattle.run.specs.declared.Opening.{Opening}
 use Rattle.run.specs.declared.Run.{Run}
 use Rattle.journal.specs.declared.Written.{Written}
-use Rattle.recording.specs.Layout.{recordingBytes}
+use Rattle.recording.specs.Layout.{mostRecordingBytes, recordingBytes}
 use Rattle.recording.specs.Shown.{shownIn}
 
 -- o: the opening; cs: the accepted calls in order; r: the run after the list; lent: the bytes lent to the recording call; w, bytes: what
@@ -33,4 +33,4 @@ pub record Demand (o : Opening) (cs : List Call) (r : Run) (lent : List ℕ) (w 
   pub not-complete : w .refusal ≡ 13 → Complete (run cs (openS (openingOf o))) → ⊥
   pub too-few : w .refusal ≡ 14 → Complete (run cs (openS (openingOf o))) × (length lent < length (recordingBytes (o .terms) (snapshot (openingOf o) cs)))
   -- 2,034 bytes are enough for any recording.
-  pub enough : length (recordingBytes (o .terms) (snapshot (openingOf o) cs)) ≤ 2034
+  pub enough : length (recordingBytes (o .terms) (snapshot (openingOf o) cs)) ≤ mostRecordingBytes

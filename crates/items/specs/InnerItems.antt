@@ -10,7 +10,12 @@ use Rattle.rules.specs.Change.{on}
 use Rattle.recording.specs.Layout.{joinBelow}
 use Rattle.recording.specs.InnerRecords.{isIn, sentWords, takenCount, itemsAt}
 use Rattle.rules.specs.Limits.{mostZones}
+use Rattle.run.specs.Layout.{secondWeight}
 use Rattle.channel.specs.Channels.{mostChannels, isChannel}
+
+-- The values of a record's high byte: its kind and its channel's index.
+abbrev pub highBytes : ℕ
+highBytes = 256
 
 -- The index of the zone that acts by a record, of the high byte of its word.
 abbrev pub ownerOf : ℕ → ℕ
@@ -22,7 +27,7 @@ isSent high ordinal shown = ltb high mostChannels && isIn ordinal (getD shown (h
 
 -- Has the record's word this high byte, and is its event inside those shown for the zone that acts by it?
 abbrev pub countsAt : ℕ → List ℕ → ℕ → ℕ → Bool
-countsAt high shown w ordinal = eqb (w / 256) high && isIn ordinal (getD shown (ownerOf high) 0)
+countsAt high shown w ordinal = eqb (w / secondWeight) high && isIn ordinal (getD shown (ownerOf high) 0)
 
 -- The number of such records, over some records and their ordinals; then that number for each high byte.
 abbrev pub countAt : ℕ → List ℕ → List ℕ → List ℕ → ℕ
@@ -31,7 +36,7 @@ countAt high shown (w ∷ ws) [] = 0
 countAt high shown (w ∷ ws) (n ∷ ns) = on (countsAt high shown w n) suc (countAt high shown ws ns)
 
 unfoldable pub counts : List ℕ → List ℕ → List ℕ → List ℕ
-counts shown ws ns = listBelow 256 (λ high. countAt high shown ws ns)
+counts shown ws ns = listBelow highBytes (λ high. countAt high shown ws ns)
 
 -- What these numbers say of channels: of each index, how many messages and how many receipts are inside.
 pub record Counted (seen shown ws ns : List ℕ) : Type 0 where

@@ -5,11 +5,13 @@ ghost use Prim.Native.Nat.{_-_, _*_, _/_, _<_, _≤_};
 ghost use lib.ListN.{length, getD};
 ghost use Rattle.rules.specs.Limits.{mostRecords};
 ghost use Rattle.channel.specs.Channels.{mostChannels};
+ghost use Rattle.run.specs.Layout.{secondWeight};
 ghost use Rattle.recording.specs.InnerRecords.{isIn};
-ghost use Rattle.items.specs.InnerItems.{ownerOf, isSent, counts, Counted, numberAt, itemNumber, Begins, allWords};
+ghost use Rattle.items.specs.InnerItems.{highBytes, ownerOf, isSent, counts, Counted, numberAt, itemNumber, Begins, allWords};
 ghost use Rattle.words.specs.InnerWrote.{Wrote};
 use channel::CHANNELS;
 use rules::ZONES;
+use run::SECOND_WEIGHT;
 
 // The values of a record's high byte: its kind and its channel's index.
 pub const HIGH_BYTES: usize = 256;
@@ -29,15 +31,15 @@ fn inside(ordinal: u16, shown: u16) -> u16
 
 // The high byte of a record's word: its kind and its channel's index.
 fn high_byte(word: u16) -> usize
-    ensures { λ r. ⌜ (r ≡ word / 256) × (r < 256) ⌝ }
+    ensures { λ r. ⌜ (r ≡ word / secondWeight) × (r < highBytes) ⌝ }
 {
-    (word / 256) as usize
+    (word / SECOND_WEIGHT) as usize
 }
 
 // The events shown for the zone that acts, by the high byte of a record's word: the sender's for a message, the receiver's for a receipt.
 // A high byte is below 256.
 fn shown_for(shown: &[u16; ZONES], high: usize) -> u16
-    requires { ⌜ high < 256 ⌝ }
+    requires { ⌜ high < highBytes ⌝ }
     ensures { λ r. ⌜ r ≡ getD (now (shown .entry)) (ownerOf high) 0 ⌝ }
 {
     if high < CHANNELS {

@@ -14,7 +14,7 @@ use Rattle.rules.specs.declared.Checkpoint.{Checkpoint}
 use Rattle.run.specs.State.{zoneAt, termsOf, countOf}
 use Rattle.journal.specs.Format.{headerOf, openedWith, recordWords}
 use Rattle.journal.specs.Writing.{Output, refusedOutput, writtenOutput, isReplayed}
-use Rattle.recording.specs.Layout.{joinBelow}
+use Rattle.recording.specs.Layout.{permanentWeight, joinBelow}
 use Rattle.items.specs.InnerItems.{allWords}
 use Rattle.words.specs.Bytes.{wordsBytes}
 use Rattle.channel.specs.Channels.{isChannel, itemsOn}
@@ -28,7 +28,7 @@ use Rattle.channel.specs.declared.Channels.{Channels}
 
 -- The two words of a zone, of its checkpoint and its opening stock, and those of all zones.
 abbrev pub checkpointWords : Checkpoint → ℕ → List ℕ
-checkpointWords checkpoint opening = (cond (isPermanent checkpoint) 32768 0 + eventsOf checkpoint) ∷ stockOf checkpoint opening ∷ []
+checkpointWords checkpoint opening = (cond (isPermanent checkpoint) permanentWeight 0 + eventsOf checkpoint) ∷ stockOf checkpoint opening ∷ []
 
 unfoldable pub zonesWords : Head → List ℕ
 zonesWords h = joinBelow (countOf h) (λ i. checkpointWords (zoneAt h i .checkpoint) (stockAt (h .opening) i))

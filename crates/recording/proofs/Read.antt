@@ -17,7 +17,7 @@ use Rattle.journal.specs.Reading.{recordsIn, readCall, openingIn}
 use Rattle.journal.specs.Writing.{Output, refusedOutput, writtenOutput}
 use Rattle.journal.proofs.Accepted.{read-comes, read-replayed}
 use Rattle.recording.specs.Call.{noRequests, snapshotOf, recordCall}
-use Rattle.recording.specs.Layout.{recordingBytes}
+use Rattle.recording.specs.Layout.{mostRecordingBytes, recordingBytes}
 use Rattle.recording.proofs.Sized.{recording-most}
 use Rattle.run.specs.Calls.{answer}
 
@@ -52,7 +52,7 @@ module _ (bytes lent : List ℕ) (e : readCall bytes .refusal ≡ 0) where
   pub read-whole : WholeRun read
   read-whole = let h = read-comes bytes e in subst WholeRun (sym (h .result)) (after-whole (callsIn (recordsIn bytes)) _ (open-whole (openingIn bytes)))
 
-  pub read-never-14 : 2034 ≤ length lent → recordCall read lent .answer .refusal ≢ 14
+  pub read-never-14 : mostRecordingBytes ≤ length lent → recordCall read lent .answer .refusal ≢ 14
   unfolding recordCall
   read-never-14 h =
       let m = recording-most read read-whole (read-replayed bytes e) in

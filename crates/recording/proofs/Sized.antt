@@ -10,7 +10,7 @@ use Rattle.run.specs.declared.Run.{Run}
 use Rattle.journal.specs.Writing.{isReplayed}
 use Rattle.words.proofs.ByteLaws.{bytes-length}
 use Rattle.recording.specs.Call.{snapshotOf}
-use Rattle.recording.specs.Layout.{joinBelow, zoneWords, itemWords, recordingWords, recordingBytes}
+use Rattle.recording.specs.Layout.{mostRecordingBytes, joinBelow, zoneWords, itemWords, recordingWords, recordingBytes}
 use Rattle.recording.proofs.Bounds.{run-sound, items-few}
 use Rattle.run.specs.State.{termsOf}
 use Rattle.run.specs.declared.Terms.{Terms}
@@ -28,6 +28,6 @@ recording-length t s =
     bytes-length (recordingWords t s)
     ∙ omega (arith, length-append (joinBelow (t .count) (zoneWords s)) (itemWords (t .count) s), zones-length (t .count) s)
 
-pub recording-most : (r : Run) → WholeRun r → isReplayed r ≡ true → length (recordingBytes (termsOf (r .head)) (snapshotOf r)) ≤ 2034
+pub recording-most : (r : Run) → WholeRun r → isReplayed r ≡ true → length (recordingBytes (termsOf (r .head)) (snapshotOf r)) ≤ mostRecordingBytes
 recording-most r w e =
     omega (arith, recording-length (termsOf (r .head)) (snapshotOf r), items-few r w e, run-sound r w e .records, run-sound r w e .most)

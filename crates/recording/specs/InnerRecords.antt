@@ -8,6 +8,7 @@ use lib.ListN.{drop, getD}
 use Rattle.rules.specs.Change.{on, cons-if}
 use Rattle.rules.specs.Limits.{mostZones}
 use Rattle.channel.specs.Channels.{mostChannels}
+use Rattle.run.specs.Layout.{secondWeight}
 
 -- Is the event with this ordinal inside the events shown? A record that is no own event has the ordinal 0.
 abbrev pub isIn : ℕ → ℕ → Bool
@@ -16,10 +17,10 @@ isIn ordinal shown = leb 1 ordinal && leb ordinal shown
 -- Is the record a message sent on the channel at index k, inside the sender's events; a receipt on it, inside the receiver's? The high
 -- byte of a record's word is its kind and its channel's index.
 abbrev pub sendsOn : ℕ → List ℕ → ℕ → ℕ → Bool
-sendsOn k shown w ordinal = eqb (w / 256) k && isIn ordinal (getD shown (k / mostZones) 0)
+sendsOn k shown w ordinal = eqb (w / secondWeight) k && isIn ordinal (getD shown (k / mostZones) 0)
 
 abbrev pub takesOn : ℕ → List ℕ → ℕ → ℕ → Bool
-takesOn k shown w ordinal = eqb (w / 256) (mostChannels + k) && isIn ordinal (getD shown (k % mostZones) 0)
+takesOn k shown w ordinal = eqb (w / secondWeight) (mostChannels + k) && isIn ordinal (getD shown (k % mostZones) 0)
 
 -- The words of the messages, and the number of the receipts, over some records and their ordinals.
 abbrev pub sentWords : ℕ → List ℕ → List ℕ → List ℕ → List ℕ

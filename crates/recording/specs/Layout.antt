@@ -5,7 +5,7 @@ use mathlib.Core.List.{List, [], _∷_, _++_, map}
 use Prim.Native.Nat.{ℕ, zero, suc, _+_, _*_, _/_, _%_}
 use lib.ListN.{length}
 use Rattle.rules.specs.Cut.{Snapshot}
-use Rattle.rules.specs.Limits.{mostZones}
+use Rattle.rules.specs.Limits.{mostZones, mostRecords}
 use Rattle.run.specs.Layout.{sendRecord}
 use Rattle.words.specs.Bytes.{wordsBytes}
 use Rattle.journal.specs.Format.{headerOf}
@@ -17,9 +17,20 @@ abbrev pub joinBelow : {A : Type 0} → ℕ → (ℕ → List A) → List A
 joinBelow zero f = []
 joinBelow (suc n) f = joinBelow n f ++ f n
 
+-- The bytes of the longest recording: a header word, two words for each zone, and a word for each item, which has its record.
+abbrev pub mostRecordingBytes : ℕ
+mostRecordingBytes = 2 + 4 * mostZones + 2 * mostRecords
+
+-- What the firm bit, of a permanent checkpoint, weighs in a zone's first word; the events stand below, in ten bits.
+abbrev pub permanentWeight : ℕ
+permanentWeight = 32768
+
+abbrev pub eventsLimit : ℕ
+eventsLimit = 1024
+
 -- The two words of the zone at index i.
 abbrev pub zoneWords : Snapshot → ℕ → List ℕ
-zoneWords s i = (cond (s .recorded i) 32768 0 + s .events i) ∷ s .park .stock i ∷ []
+zoneWords s i = (cond (s .recorded i) permanentWeight 0 + s .events i) ∷ s .park .stock i ∷ []
 
 -- The words of the items on the channel at index k; none where the site has no channel there.
 abbrev pub channelWords : Snapshot → ℕ → List ℕ

@@ -9,6 +9,8 @@ use Rattle.rules.specs.Limits.{mostZones}
 use Rattle.channel.specs.Channels.{channelIndex}
 use Rattle.words.specs.Bytes.{wordAt, wordsFrom}
 use Rattle.words.specs.Header.{zonesIn, numberIn}
+use Rattle.run.specs.Layout.{secondWeight}
+use Rattle.recording.specs.Layout.{permanentWeight, eventsLimit}
 
 -- The two words of the zone at index k.
 abbrev pub zoneWord : List ℕ → ℕ → ℕ
@@ -27,12 +29,12 @@ itemsIn bytes = wordsFrom bytes (2 + 4 * zonesIn (wordAt bytes 0)) (numberIn (wo
 -- The cars of the items on the channel at index k: kind 0 records, whose high byte is the index.
 abbrev pub carsShown : ℕ → List ℕ → List ℕ
 carsShown k [] = []
-carsShown k (w ∷ ws) = cons-if (eqb (w / 256) k) (w % 256) (carsShown k ws)
+carsShown k (w ∷ ws) = cons-if (eqb (w / secondWeight) k) (w % secondWeight) (carsShown k ws)
 
 abbrev pub shownIn : List ℕ → Snapshot
 shownIn bytes = record {
-  recorded = λ k. hasZone bytes k && leb 32768 (zoneWord bytes k);
-  events = λ k. cond (hasZone bytes k) (zoneWord bytes k % 1024) 0;
+  recorded = λ k. hasZone bytes k && leb permanentWeight (zoneWord bytes k);
+  events = λ k. cond (hasZone bytes k) (zoneWord bytes k % eventsLimit) 0;
   park = record {
     stock = λ k. cond (hasZone bytes k) (stockWord bytes k) 0;
     channel = λ i j. cond (ltb i mostZones && ltb j mostZones) (carsShown (channelIndex i j) (itemsIn bytes)) [];

@@ -5,6 +5,7 @@ use Prim.Native.Nat.{ℕ}
 use lib.Dec.{eqb}
 use lib.ListN.{take, replicate}
 use Rattle.recording.specs.Journal.{JournalOutput, recordJournal}
+use Rattle.recording.specs.Layout.{mostRecordingBytes}
 use Rattle.text.specs.Text.{bytesText, refusedText}
 
 -- The text of an answer: the bytes written, or the refusal.
@@ -13,4 +14,4 @@ outputText o = cond (eqb (o .answer .refusal) 0) (bytesText (take (o .answer .wr
 
 -- 2,034 bytes are enough for any recording.
 unfoldable pub reportText : List ℕ → List ℕ
-reportText journal = outputText (recordJournal journal (replicate 2034 0))
+reportText journal = outputText (recordJournal journal (replicate mostRecordingBytes 0))
