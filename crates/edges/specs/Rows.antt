@@ -131,22 +131,22 @@ word (message cars true) = 256 + cars
 word (request set) = 512 + set
 
 -- The words of the channel at index k; the one from zone a to zone b is at (a - 1) * 8 + (b - 1).
-abbrev pub wordsAt : List Channel → ℕ → List ℕ
-wordsAt [] k = []
-wordsAt (l ∷ ls) k = cond (eqb k ((l .from - 1) * 8 + (l .to - 1))) (map word (l .items)) (wordsAt ls k)
+abbrev pub channelWordsAt : List Channel → ℕ → List ℕ
+channelWordsAt [] k = []
+channelWordsAt (l ∷ ls) k = cond (eqb k ((l .from - 1) * 8 + (l .to - 1))) (map word (l .items)) (channelWordsAt ls k)
 
 -- n numbers: those of the list, then zeros.
 abbrev pub padded : ℕ → List ℕ → List ℕ
 padded n xs = take n (xs ++ replicate n 0)
 
 -- The 16 words of each of n channels from index k on, and the lengths of these channels.
-abbrev pub wordsFrom : ℕ → ℕ → List Channel → List ℕ
-wordsFrom k zero ls = []
-wordsFrom k (suc n) ls = padded 16 (wordsAt ls k) ++ wordsFrom (suc k) n ls
+abbrev pub channelWordsFrom : ℕ → ℕ → List Channel → List ℕ
+channelWordsFrom k zero ls = []
+channelWordsFrom k (suc n) ls = padded 16 (channelWordsAt ls k) ++ channelWordsFrom (suc k) n ls
 
 abbrev pub lengthsFrom : ℕ → ℕ → List Channel → List ℕ
 lengthsFrom k zero ls = []
-lengthsFrom k (suc n) ls = length (wordsAt ls k) ∷ lengthsFrom (suc k) n ls
+lengthsFrom k (suc n) ls = length (channelWordsAt ls k) ∷ lengthsFrom (suc k) n ls
 
 -- n zones from index k on: those of the list, then what a run keeps for zones that the site does not have.
 abbrev pub zonesFrom : ℕ → ℕ → List Local → List Local
@@ -162,7 +162,7 @@ runWith opening zones channels records = record {
     records = length records;
     zones = zonesFrom 0 8 zones;
   };
-  channels = record { items = wordsFrom 0 64 channels; lens = lengthsFrom 0 64 channels };
+  channels = record { items = channelWordsFrom 0 64 channels; lens = lengthsFrom 0 64 channels };
   journal = padded 1000 records;
 }
 

@@ -14,7 +14,7 @@ use Rattle.rules.specs.Site.{Item, message, request, Call, send, receive, start
 use Rattle.rules.proofs.SetLaws.{has-only, has-nobody}
 use Rattle.local.specs.Requesting.{requestedBy, startedBy}
 use Rattle.zone.specs.Zone.{isZoneSound, isOther, sendStep, receiveStep, requestStep, startStep}
-use Rattle.network.specs.Network.{openNetwork, after, acceptedCalls, starts, networkSite}
+use Rattle.network.specs.Network.{openNetwork, after, acceptedCalls, startsIn, networkSite}
 use Rattle.network.proofs.Network.{network-consistent}
 
 -- Zone 2 is opened full.
@@ -62,4 +62,4 @@ complete = ((1, refl), λ i j. ap waits (empty-channel i j))
 -- So what is shown of them is a consistent cut of them.
 pub example-cut : Cut opening acceptedOnes (snapshot opening acceptedOnes)
 example-cut = subst (λ (cs : List Call). Cut opening cs (snapshot opening cs)) accepted-ones
-    (network-consistent 2 opening calls (subst (λ (cs : List Call). starts cs ≤ 1) (sym accepted-ones) (omega arith)) complete)
+    (network-consistent 2 opening calls (subst (λ (cs : List Call). startsIn cs ≤ 1) (sym accepted-ones) (omega arith)) complete)

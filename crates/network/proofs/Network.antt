@@ -31,7 +31,7 @@ use Rattle.local.specs.Requesting.{requestingAs, requestedBy, startedBy}
 use Rattle.zone.specs.Zone.{localOf, withLocal, isZoneSound, isOther, hasRoom, refused, accepted, requestingStep, sendStep, receiveStep, requestStep, startStep}
 use Rattle.zone.specs.declared.Step.{Step}
 use Rattle.zone.specs.declared.Zone.{Zone}
-use Rattle.network.specs.Network.{Network, openNetwork, takeStep, answer, isAccepted, sendsRequests, withoutFirst, stored, storedIf, made, after, acceptedCalls, starts, networkSite}
+use Rattle.network.specs.Network.{Network, openNetwork, takeStep, answer, isAccepted, sendsRequests, withoutFirst, stored, storedIf, made, after, acceptedCalls, startsIn, networkSite}
 
 -- Where no question has the number 0, an answer with refusal 0 is what the questions guard, and all of them were answered yes.
 pub ask-accepted : {A : Type 0} (number : A → ℕ) (qs : List Question) (f : ℕ → A) (x : A) → ((m : ℕ) → number (f m) ≡ m)
@@ -252,17 +252,17 @@ no-checkpoint-not-permanent (Permanent s) e = e
 
 -- An accepted call is one that the rules allow, where no start is a second one.
 allowed-call : (c : Call) (rest : List Call) (net : Network) (h : History) → Fresh h → networkSite net ≡ h .now
-    → begun (h .initiator) + starts (c ∷ rest) ≤ 1 → Shows c net → May c (h .now)
+    → begun (h .initiator) + startsIn (c ∷ rest) ≤ 1 → Shows c net → May c (h .now)
 allowed-call (send a b cars) rest net h f e one w = subst (May (send a b cars)) e w
 allowed-call (receive a b) rest net h f e one w = subst (May (receive a b)) e w
 allowed-call (start a) rest net h f e one w = go (h .initiator) refl one
   where
-    go : (o : Option ℕ) → h .initiator ≡ o → begun o + suc (starts rest) ≤ 1 → May (start a) (h .now)
+    go : (o : Option ℕ) → h .initiator ≡ o → begun o + suc (startsIn rest) ≤ 1 → May (start a) (h .now)
     go none q one = λ z. no-checkpoint-not-permanent (h .now .zone z .checkpoint) (f .no-checkpoint q z)
     go (some x) q one = absurd (omega arith)
 
 -- The starts that are left, after an accepted call.
-one-left : (c : Call) (rest : List Call) (o : Option ℕ) → begun o + starts (c ∷ rest) ≤ 1 → begun (initiatorAfter c o) + starts rest ≤ 1
+one-left : (c : Call) (rest : List Call) (o : Option ℕ) → begun o + startsIn (c ∷ rest) ≤ 1 → begun (initiatorAfter c o) + startsIn rest ≤ 1
 one-left (send a b cars) rest o one = one
 one-left (receive a b) rest o one = one
 one-left (start a) rest none one = omega arith
@@ -273,14 +273,14 @@ abbrev Follows : List Call → Network → Site → Type 0
 Follows cs net s = Allowed (acceptedCalls cs net) s × (networkSite (after cs net) ≡ run (acceptedCalls cs net) s)
 
 follows : (cs : List Call) (net : Network) (h : History) → Numbered net → Fresh h → networkSite net ≡ h .now
-    → begun (h .initiator) + starts (acceptedCalls cs net) ≤ 1 → Follows cs net (h .now)
+    → begun (h .initiator) + startsIn (acceptedCalls cs net) ≤ 1 → Follows cs net (h .now)
 follows [] net h num f e one = (tt, e)
 follows (c ∷ cs) net h num f e one = go (λ t. follows cs (made c net) t (numbered net num c)) (isAccepted (answer c net)) refl one
   where
-    go : ((t : History) → Fresh t → networkSite (made c net) ≡ t .now → begun (t .initiator) + starts (acceptedCalls cs (made c net)) ≤ 1
+    go : ((t : History) → Fresh t → networkSite (made c net) ≡ t .now → begun (t .initiator) + startsIn (acceptedCalls cs (made c net)) ≤ 1
         → Follows cs (made c net) (t .now))
         → (p : Bool) → isAccepted (answer c net) ≡ p
-        → begun (h .initiator) + starts (cons-if p c (acceptedCalls cs (made c net))) ≤ 1
+        → begun (h .initiator) + startsIn (cons-if p c (acceptedCalls cs (made c net))) ≤ 1
         → Allowed (cons-if p c (acceptedCalls cs (made c net))) (h .now)
         × (networkSite (after cs (made c net)) ≡ run (cons-if p c (acceptedCalls cs (made c net))) (h .now))
     go ih true q one =
@@ -295,7 +295,7 @@ opening : (n : ℕ) (o : Opening) → networkSite (openNetwork n o) ≡ openS o
 opening n o = site≡ _ _ (λ k. ap (λ (i : ℕ). opened i (o .stocks k)) (index-of k (k + 1) refl)) (λ i j. refl)
 
 -- Whatever the zone count, the opening and the calls, if at most one start was accepted.
-module _ (n : ℕ) (o : Opening) (cs : List Call) (one : starts (acceptedCalls cs (openNetwork n o)) ≤ 1) where
+module _ (n : ℕ) (o : Opening) (cs : List Call) (one : startsIn (acceptedCalls cs (openNetwork n o)) ≤ 1) where
   -- The network after the calls, and those of them that were accepted.
   abbrev net : Network
   net = after cs (openNetwork n o)

@@ -81,11 +81,11 @@ acceptedCalls [] net = []
 acceptedCalls (c ∷ cs) net = cons-if (isAccepted (answer c net)) c (acceptedCalls cs (made c net))
 
 -- The number of starts.
-abbrev pub starts : List Call → ℕ
-starts [] = 0
-starts (send a b cars ∷ cs) = starts cs
-starts (receive a b ∷ cs) = starts cs
-starts (start a ∷ cs) = suc (starts cs)
+abbrev pub startsIn : List Call → ℕ
+startsIn [] = 0
+startsIn (send a b cars ∷ cs) = startsIn cs
+startsIn (receive a b ∷ cs) = startsIn cs
+startsIn (start a ∷ cs) = suc (startsIn cs)
 
 -- The site of the rules that a network stands for. What is shown of its accepted calls is what the rules show: `snapshot`.
 abbrev pub networkSite : Network → Site

@@ -1,7 +1,7 @@
 -- What the zone part promises to a maker of controllers.
 use mathlib.Core.Path.{_≡_}
 use Rattle.rules.specs.Sets.{size}
-use Rattle.zone.specs.Zone.{openZone, sendStep, receiveStep, requestStep, startStep, nextOf}
+use Rattle.zone.specs.Zone.{openZone, sendStep, receiveStep, requestStep, startStep, nextTarget}
 use Rattle.zone.proofs as part
 use Rattle.promises.specs.Promise.{Keeps}
 
@@ -23,5 +23,5 @@ start _ = part.Zone.start.Met.met
 pub requests : Keeps part.requests.ended part.requests.Symbol.routine (λ _ to r. r ≡ size to)
 requests _ = part.requests.Met.met
 
-pub next-of : Keeps part.next_of.ended part.next_of.Symbol.routine (λ _ set r. r ≡ nextOf set)
+pub next-of : Keeps part.next_of.ended part.next_of.Symbol.routine (λ _ set r. r ≡ nextTarget set)
 next-of _ = part.next_of.Met.met

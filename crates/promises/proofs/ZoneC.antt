@@ -1,7 +1,7 @@
 -- What the zone part for C (c/zone.h) promises, for every byte pattern of the structs.
 use mathlib.Core.Path.{_≡_}
 use Rattle.rules.specs.Sets.{size}
-use Rattle.zone.specs.Zone.{nextOf}
+use Rattle.zone.specs.Zone.{nextTarget}
 use Rattle.zone_c.specs.Plain.{openPlain, sendPlain, receivePlain, requestPlain, startPlain}
 use Rattle.zone_c.proofs as part
 use Rattle.promises.specs.Promise.{Keeps}
@@ -24,5 +24,5 @@ zone-start _ = part.zone_start.Met.met
 pub zone-requests : Keeps part.zone_requests.ended part.zone_requests.Symbol.routine (λ _ to r. r ≡ size to)
 zone-requests _ = part.zone_requests.Met.met
 
-pub zone-next : Keeps part.zone_next.ended part.zone_next.Symbol.routine (λ _ set r. r ≡ nextOf set)
+pub zone-next : Keeps part.zone_next.ended part.zone_next.Symbol.routine (λ _ set r. r ≡ nextTarget set)
 zone-next _ = part.zone_next.Met.met

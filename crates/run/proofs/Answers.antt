@@ -8,7 +8,7 @@ use Rattle.rules.specs.Questions.{Question, question, ask, refusal, index, Amon
 use Rattle.channel.specs.Channels.{channelIndex, lenOf}
 use Rattle.run.specs.State.{zoneAt, isSound, hasStarted, countOf}
 use Rattle.run.specs.Calls.{refused, answer, granted, questions, actorIn}
-use Rattle.run.specs.Claims.{sendQuestions, sendRefusal, answers}
+use Rattle.run.specs.Claims.{sendQuestions, sendRefusal, possibleAnswers}
 use Rattle.run.specs.declared.Run.{Run}
 use Rattle.run.specs.declared.Answer.{Answer}
 use Rattle.run.proofs.Outcome.{answer-is, listed, unlisted}
@@ -49,9 +49,9 @@ pub send-among : (count records stock len from to cars : ℕ)
 send-among count records stock len from to cars = refusal-among (sendQuestions count records stock len from to cars)
 
 -- Of any run, sound or not: each call answers 0 or a number of its list.
-pub call-among : (c : SiteCall) (r : Run) → Among (answer c r .refusal) (answers c)
+pub call-among : (c : SiteCall) (r : Run) → Among (answer c r .refusal) (possibleAnswers c)
 call-among c r =
-    subst (λ (n : ℕ). Among n (answers c)) (sym (refusal-is c r))
+    subst (λ (n : ℕ). Among n (possibleAnswers c)) (sym (refusal-is c r))
     (subst (λ (ns : List ℕ). Among (refusal (questions c r)) (0 ∷ 1 ∷ 5 ∷ 6 ∷ ns)) (listed c (actorIn c r) (r .channels) (hasStarted (r .head)))
     (refusal-among (questions c r)))
 
@@ -63,7 +63,7 @@ open-among o =
 
 -- No call answers 20.
 pub call-never-20 : (c : SiteCall) (r : Run) → answer c r .refusal ≢ 20
-call-never-20 c r = not-among (answer c r .refusal) 20 (answers c) (call-among c r) (unlisted c .1)
+call-never-20 c r = not-among (answer c r .refusal) 20 (possibleAnswers c) (call-among c r) (unlisted c .1)
 
 pub open-never-20 : (o : Opening) → openCall o .refusal ≢ 20
 open-never-20 o = not-among (openCall o .refusal) 20 (0 ∷ 2 ∷ 3 ∷ 4 ∷ []) (open-among o) refl

@@ -21,7 +21,7 @@ use Rattle.rules.specs.Below.{sum}
 use Rattle.run.specs.State.{zoneAt, isSound, hasStarted, countOf}
 use Rattle.run.specs.Calls.{refused, isPair, answer, granted, questions, firstReceived, isNamed, actor, actorIn, ownQuestions}
 use Rattle.run.specs.Lists.{callOf, isAccepted}
-use Rattle.run.specs.Claims.{ownRefusals, answers}
+use Rattle.run.specs.Claims.{ownRefusals, possibleAnswers}
 use Rattle.run.specs.declared.Run.{Run}
 use Rattle.run.specs.declared.Answer.{Answer}
 use Rattle.run.specs.declared.SiteCall.{SiteCall}
@@ -73,7 +73,7 @@ pub record Passed (c : SiteCall) (r : Run) : Type 0 where
 pub record Refused (c : SiteCall) (r : Run) : Type 0 where
   pub said : isAccepted c r ≡ false
   pub number : ℕ
-  pub among : Among number (tail (answers c))
+  pub among : Among number (tail (possibleAnswers c))
   pub kept : answer c r .run ≡ r
 
 pub zone-sited : (count zone : ℕ) → isOn count zone ≡ true → (1 ≤ zone) × (index zone < count)
@@ -166,7 +166,7 @@ outcome c r = go (ask-cases (questions c r) (refused r) (granted c r))
         let e = answer-is c r ∙ h .2 in
         let m = subst (λ (ns : List ℕ). Among (h .0) (1 ∷ 5 ∷ 6 ∷ ns)) (listed c (actorIn c r) (r .channels) (hasStarted (r .head))) (h .1) in
         inr (record {
-          said = ap (λ (x : Answer). eqb (x .refusal) 0) e ∙ ne-eqb (h .0) 0 (not-among (h .0) 0 (tail (answers c)) m (unlisted c .0));
+          said = ap (λ (x : Answer). eqb (x .refusal) 0) e ∙ ne-eqb (h .0) 0 (not-among (h .0) 0 (tail (possibleAnswers c)) m (unlisted c .0));
           number = h .0;
           among = m;
           kept = ap (λ (x : Answer). x .run) e;

@@ -56,8 +56,8 @@ ownRefusals (Receive from to) = 9 ∷ 10 ∷ []
 ownRefusals (Start zone) = 11 ∷ 10 ∷ []
 
 -- The numbers that a call may answer: 0 and those of its list.
-abbrev pub answers : SiteCall → List ℕ
-answers c = 0 ∷ 1 ∷ 5 ∷ 6 ∷ ownRefusals c
+abbrev pub possibleAnswers : SiteCall → List ℕ
+possibleAnswers c = 0 ∷ 1 ∷ 5 ∷ 6 ∷ ownRefusals c
 
 -- The record words of the accepted calls of a list, in order.
 abbrev pub acceptedRecords : List SiteCall → Run → List ℕ

@@ -119,17 +119,17 @@ pub record PlainOutput : Type 0 where
 abbrev pub writtenOf : Written → PlainWritten
 writtenOf w = record { refusal = w .refusal; position = 0; written = w .written }
 
-abbrev pub outputOf : Output → PlainOutput
-outputOf o = record { answer = writtenOf (o .answer); bytes = o .bytes }
+abbrev pub plainOutput : Output → PlainOutput
+plainOutput o = record { answer = writtenOf (o .answer); bytes = o .bytes }
 
-abbrev pub refusedOutput : List ℕ → ℕ → ℕ → PlainOutput
-refusedOutput lent n position = record { answer = record { refusal = n; position = position; written = 0 }; bytes = lent }
+abbrev pub refusedPlainOutput : List ℕ → ℕ → ℕ → PlainOutput
+refusedPlainOutput lent n position = record { answer = record { refusal = n; position = position; written = 0 }; bytes = lent }
 
 unfoldable pub recordPlain : PlainRun → List ℕ → PlainOutput
-recordPlain p lent = cond (areKinds (p .head .zones)) (outputOf (recordCall (runOf p) lent)) (refusedOutput lent 1 0)
+recordPlain p lent = cond (areKinds (p .head .zones)) (plainOutput (recordCall (runOf p) lent)) (refusedPlainOutput lent 1 0)
 
 unfoldable pub writePlain : PlainRun → List ℕ → PlainOutput
-writePlain p lent = cond (areKinds (p .head .zones)) (outputOf (writeCall (runOf p) lent)) (refusedOutput lent 1 0)
+writePlain p lent = cond (areKinds (p .head .zones)) (plainOutput (writeCall (runOf p) lent)) (refusedPlainOutput lent 1 0)
 
 abbrev pub readPlain : List ℕ → PlainReading
 readPlain bytes =

@@ -96,5 +96,5 @@ startStep z =
     (requestingStep z (startedBy (index (z .number)) (localOf z)))
 
 -- The number of the zone to be sent to next: the lowest of the set; 0 where the set is empty.
-unfoldable pub nextOf : ℕ → ℕ
-nextOf set = cond (eqb set 0) 0 (trailingZeros mostZones set + 1)
+unfoldable pub nextTarget : ℕ → ℕ
+nextTarget set = cond (eqb set 0) 0 (trailingZeros mostZones set + 1)

@@ -255,7 +255,7 @@ pub fn requests(to: u8) -> u32
 
 // The number of the zone to be sent to next of a set: its lowest. 0 where the set is empty.
 pub fn next_of(set: u8) -> u8
-    ensures { λ r. ⌜ r ≡ Rattle.zone.specs.Zone.nextOf set ⌝ }
+    ensures { λ r. ⌜ r ≡ Rattle.zone.specs.Zone.nextTarget set ⌝ }
 {
     if set == 0 {
         return 0;

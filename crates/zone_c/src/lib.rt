@@ -2,7 +2,7 @@
 // unsound and meets 1; a refused struct comes back equal in every field.
 ghost use mathlib.Core.Path.{_≡_};
 ghost use Rattle.rules.specs.Sets.{size};
-ghost use Rattle.zone.specs.Zone.{nextOf};
+ghost use Rattle.zone.specs.Zone.{nextTarget};
 ghost use Rattle.zone_c.specs.Plain.{
   markOf,
   zoneOf,
@@ -248,7 +248,7 @@ pub extern "C" fn zone_requests(to: u8) -> u32
 // The number of the zone to be sent to next of a set; 0 where it is empty.
 #[no_mangle]
 pub extern "C" fn zone_next(set: u8) -> u8
-    ensures { λ r. ⌜ r ≡ nextOf set ⌝ }
+    ensures { λ r. ⌜ r ≡ nextTarget set ⌝ }
 {
     zone::next_of(set)
 }

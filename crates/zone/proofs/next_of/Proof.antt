@@ -2,12 +2,12 @@
 use native.Mathlib.Omega.{arith}
 use lib.Count.{trailing-le}
 use borrow.Author.Tests.{eq-eqb, ne-eqb}
-use Rattle.zone.specs.Zone.{nextOf}
+use Rattle.zone.specs.Zone.{nextTarget}
 use Rattle.zone.proofs.next_of.Statement.{statement}
 use Rattle.zone.proofs.next_of.Tie as tie
 
 returns : tie.Need-returns
-unfolding nextOf
+unfolding nextTarget
 returns c = rw (eq-eqb _ _ (c .if1 .taken))
 
 cast-result : tie.Need-cast-result
@@ -17,7 +17,7 @@ add-result : tie.Need-add-result
 add-result c = record { fits = omega (arith, trailing-le 8 (c .before .args .set)) }
 
 returns-2 : tie.Need-returns-2
-unfolding nextOf
+unfolding nextTarget
 returns-2 c = rw (ne-eqb _ _ (c .if1 .left))
 
 pub next-of-spec : {M : Type 1} → statement M
