@@ -1,10 +1,10 @@
 -- Stocks: a sum one step longer, and a list of 8 by its indices.
-use mathlib.Core.Path.{_≡_, refl, sym}
+use mathlib.Core.Path.{_≡_, refl, sym, _∙_, ap}
 use mathlib.Core.List.{List, [], _∷_}
-use Prim.Native.Nat.{ℕ, zero, suc, _+_}
+use Prim.Native.Nat.{ℕ, zero, suc, _+_, _≤_}
 use native.Mathlib.Omega.{arith}
 use lib.ListN.{length, getD, take}
-use lib.Seq.{ext-getD}
+use lib.Seq.{ext-getD, take-all}
 use Rattle.rules.specs.Below.{listBelow, sum}
 use Rattle.run.proofs.BelowLaws.{list-at}
 
@@ -14,6 +14,10 @@ sum-more [] zero = refl
 sum-more [] (suc i) = refl
 sum-more (x ∷ xs) zero = omega arith
 sum-more (x ∷ xs) (suc i) = let h = sum-more xs i in omega arith
+
+-- Behind the end a step adds nothing.
+pub sum-end : (xs : List ℕ) (i : ℕ) → length xs ≤ i → sum (take (suc i) xs) ≡ sum (take i xs)
+sum-end xs i h = ap sum (take-all (suc i) xs (omega arith) ∙ sym (take-all i xs h))
 
 -- A list of 8 stocks is the list of what stands at its indices.
 pub all-indices : (xs : List ℕ) → length xs ≡ 8 → xs ≡ listBelow 8 (λ i. getD xs i 0)
