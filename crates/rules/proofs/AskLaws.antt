@@ -45,6 +45,24 @@ pub ask-yes : {A : Type 0} (qs : List Question) (f : ℕ → A) (x : A) → AllY
 ask-yes [] f x h = refl
 ask-yes (q ∷ qs) f x h = rw (h .0) (ask-yes qs f x (h .1))
 
+-- The first number decides: 0 where every answer is yes, else what is refused with it.
+pub all-yes : (qs : List Question) → lacks 0 (numbers qs) ≡ true → refusal qs ≡ 0 → AllYes qs
+all-yes [] l e = tt
+all-yes (q ∷ qs) l e = go (q .yes) refl (all-yes qs (and-right (not (eqb (q .number) 0)) _ l)) e
+  where
+    go : (b : Bool) → q .yes ≡ b → (refusal qs ≡ 0 → AllYes qs) → cond b (refusal qs) (q .number) ≡ 0 → (q .yes ≡ true) × AllYes qs
+    go true y rest e = (y, rest e)
+    go false y rest e = absurd (eqb-false (q .number) 0 (not-true (eqb (q .number) 0) (and-left _ (lacks 0 (numbers qs)) l)) e)
+
+pub ask-refused : {A : Type 0} (qs : List Question) (f : ℕ → A) (x : A) → refusal qs ≢ 0 → ask qs f x ≡ f (refusal qs)
+ask-refused [] f x h = absurd (h refl)
+ask-refused {A} (q ∷ qs) f x h = go (q .yes) (ask-refused qs f x) h
+  where
+    go : (b : Bool) → (refusal qs ≢ 0 → ask qs f x ≡ f (refusal qs)) → cond b (refusal qs) (q .number) ≢ 0
+        → cond b (ask qs f x) (f (q .number)) ≡ f (cond b (refusal qs) (q .number))
+    go true rest h = rest h
+    go false rest h = refl
+
 pub refusal-among : (qs : List Question) → Among (refusal qs) (0 ∷ numbers qs)
 refusal-among [] = inl refl
 refusal-among (q ∷ qs) = go (q .yes) (refusal-among qs)
