@@ -13,7 +13,7 @@ use Rattle.rules.specs.Limits.{mostZones}
 use Rattle.run.specs.Layout.{secondWeight}
 use Rattle.channel.specs.Channels.{mostChannels, isChannel}
 
--- The values of a record's high byte: its kind and its channel's index.
+-- The number of values of a record's high byte, which is its kind and its channel's index.
 abbrev pub highBytes : ℕ
 highBytes = 256
 
@@ -51,7 +51,7 @@ unfoldable pub beginAt : ℕ → List ℕ → ℕ → ℕ
 beginAt count seen k = sumBelow k (numberAt count seen)
 
 unfoldable pub itemNumber : ℕ → List ℕ → ℕ
-itemNumber count seen = beginAt count seen 64
+itemNumber count seen = beginAt count seen mostChannels
 
 -- A list has, for each channel up to n, the number of items at the channels before it.
 abbrev pub Begins : ℕ → List ℕ → ℕ → List ℕ → Type 0
@@ -62,4 +62,4 @@ unfoldable pub wordsAt : ℕ → List ℕ → List ℕ → List ℕ → ℕ → 
 wordsAt count shown ws ns k = cond (isChannel count k) (itemsAt k shown ws ns) []
 
 unfoldable pub allWords : ℕ → List ℕ → List ℕ → List ℕ → List ℕ
-allWords count shown ws ns = joinBelow 64 (wordsAt count shown ws ns)
+allWords count shown ws ns = joinBelow mostChannels (wordsAt count shown ws ns)

@@ -13,7 +13,7 @@ use channel::CHANNELS;
 use rules::ZONES;
 use run::SECOND_WEIGHT;
 
-// The values of a record's high byte: its kind and its channel's index.
+// The number of values of a record's high byte, which is its kind and its channel's index.
 pub const HIGH_BYTES: usize = 256;
 
 // A start for each channel, and one behind the last.

@@ -9,7 +9,7 @@ use Rattle.rules.specs.Limits.{mostZones, mostRecords}
 use Rattle.run.specs.Layout.{sendRecord}
 use Rattle.words.specs.Bytes.{wordsBytes}
 use Rattle.journal.specs.Format.{headerOf}
-use Rattle.channel.specs.Channels.{isChannel}
+use Rattle.channel.specs.Channels.{mostChannels, isChannel}
 use Rattle.run.specs.declared.Terms.{Terms}
 
 -- Lists one after another, for the numbers below n.
@@ -17,16 +17,16 @@ abbrev pub joinBelow : {A : Type 0} → ℕ → (ℕ → List A) → List A
 joinBelow zero f = []
 joinBelow (suc n) f = joinBelow n f ++ f n
 
--- The bytes of the longest recording: a header word, two words for each zone, and a word for each item, which has its record.
+-- The bytes of the longest recording: a header word, two words for each zone, and a word for each item. There are no more items than records.
 abbrev pub mostRecordingBytes : ℕ
 mostRecordingBytes = 2 + 4 * mostZones + 2 * mostRecords
 
--- What the firm bit, of a permanent checkpoint, weighs in a zone's first word; the events stand below, in ten bits.
+-- What the firm bit, of a permanent checkpoint, weighs in a zone's first word; and the number of values of the events' field, below it.
 abbrev pub permanentWeight : ℕ
 permanentWeight = 32768
 
-abbrev pub eventsLimit : ℕ
-eventsLimit = 1024
+abbrev pub eventsValues : ℕ
+eventsValues = 1024
 
 -- The two words of the zone at index i.
 abbrev pub zoneWords : Snapshot → ℕ → List ℕ
@@ -37,7 +37,7 @@ abbrev pub channelWords : Snapshot → ℕ → List ℕ
 channelWords s k = map (sendRecord (k / mostZones) (k % mostZones)) (s .park .channel (k / mostZones) (k % mostZones))
 
 unfoldable pub itemWords : ℕ → Snapshot → List ℕ
-itemWords count s = joinBelow (mostZones * mostZones) (λ k. cond (isChannel count k) (channelWords s k) [])
+itemWords count s = joinBelow mostChannels (λ k. cond (isChannel count k) (channelWords s k) [])
 
 -- The words and the bytes of a recording of a site with these terms.
 abbrev pub recordingWords : Terms → Snapshot → List ℕ

@@ -10,7 +10,7 @@ use Rattle.channel.specs.Channels.{channelIndex}
 use Rattle.words.specs.Bytes.{wordAt, wordsFrom}
 use Rattle.words.specs.Header.{zonesIn, numberIn}
 use Rattle.run.specs.Layout.{secondWeight}
-use Rattle.recording.specs.Layout.{permanentWeight, eventsLimit}
+use Rattle.recording.specs.Layout.{permanentWeight, eventsValues}
 
 -- The two words of the zone at index k.
 abbrev pub zoneWord : List ℕ → ℕ → ℕ
@@ -34,7 +34,7 @@ carsShown k (w ∷ ws) = cons-if (eqb (w / secondWeight) k) (w % secondWeight) (
 abbrev pub shownIn : List ℕ → Snapshot
 shownIn bytes = record {
   recorded = λ k. hasZone bytes k && leb permanentWeight (zoneWord bytes k);
-  events = λ k. cond (hasZone bytes k) (zoneWord bytes k % eventsLimit) 0;
+  events = λ k. cond (hasZone bytes k) (zoneWord bytes k % eventsValues) 0;
   park = record {
     stock = λ k. cond (hasZone bytes k) (stockWord bytes k) 0;
     channel = λ i j. cond (ltb i mostZones && ltb j mostZones) (carsShown (channelIndex i j) (itemsIn bytes)) [];

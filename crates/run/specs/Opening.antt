@@ -5,7 +5,7 @@ use Prim.Native.Nat.{ℕ}
 use lib.Dec.{leb, eqb}
 use lib.ListN.{length, getD, replicate}
 use Rattle.rules.specs.Below.{listBelow, sum}
-use Rattle.rules.specs.Limits.{mostZones, mostCars, mostRecords}
+use Rattle.rules.specs.Limits.{fewestZones, mostZones, mostCars, mostRecords}
 use Rattle.rules.specs.Opening as rules
 use Rattle.rules.specs.Questions.{Question, question, ask, isCount}
 use Rattle.rules.specs.Zone.{opened}
@@ -61,7 +61,7 @@ openQuestions o =
 
 -- "A refused opening or reading hands back, beside the number, a run of 2 zones with stock 0 and no records."
 abbrev pub fallback : Opening
-fallback = openingAs (termsAs 2) (0 ∷ 0 ∷ [])
+fallback = openingAs (termsAs fewestZones) (0 ∷ 0 ∷ [])
 
 abbrev pub unopened : ℕ → Answer
 unopened n = record { refusal = n; run = openedRun fallback }

@@ -43,8 +43,7 @@ countOf h = termsOf h .count
 abbrev pub noLocal : Local
 noLocal = record { stock = 0; deps = 0; events = 0; checkpoint = None }
 
--- The zone at an index, and the head with a zone put back there beside a number of records: a zone of a run is looked
--- at and put back by these two alone.
+-- The zone at an index, and the head with a zone put back there beside a number of records.
 abbrev pub zoneAt : Head → ℕ → Local
 zoneAt h i = getD (locals h) i noLocal
 
