@@ -19,7 +19,7 @@ use Rattle.rules.specs.declared.Checkpoint.{Checkpoint}
 use Rattle.rules.specs.declared.Checkpoint.the-variants.{None, Mutable, Permanent}
 use Rattle.rules.proofs.Tests.{both-true, or-cases, or-right, and-left, and-right}
 use Rattle.rules.proofs.Lists.{keep}
-use Rattle.rules.proofs.Tagged.{Event, sending, receiving}
+use Rattle.rules.proofs.Tagged.{Event, acting, receiving}
 use Rattle.rules.proofs.Untagged.{untag, plain, park≡, plain-steps, channel-after}
 use Rattle.rules.proofs.Checkpoints.{permanent-has-checkpoint}
 use Rattle.rules.proofs.History.{History, openH, IsPermanent, movesOf, history, now-run, moves-open}
@@ -41,7 +41,7 @@ not-shown (Permanent s) opening e = absurd (false≢true (sym e))
 
 -- The senders of a zone's receipts in the first part are those that it received from before its checkpoint.
 takes-more : (i j : ℕ) (p : Bool) (e : Event) (l : List Event) → takes i j (map untag l) ≤ takes i j (map untag (cons-if p e l))
-takes-more i j true (sending a b c m) l = omega arith
+takes-more i j true (acting x m) l = omega (arith, x .none-taken i j (map untag l))
 takes-more i j true (receiving a b c m) l = go (eqb i a && eqb j b)
   where
     go : (q : Bool) → takes i j (map untag l) ≤ on q suc (takes i j (map untag l))
@@ -52,9 +52,9 @@ takes-more i j false e l = omega arith
 sender-takes : (F : ℕ → Bool) (i j : ℕ) → F j ≡ true → (es : List Event) → senderOf j i es ≡ true
     → 0 < takes i j (map untag (keep (inFirst F) es))
 sender-takes F i j f [] h = absurd (false≢true h)
-sender-takes F i j f (sending a b c m ∷ es) h =
+sender-takes F i j f (acting x m ∷ es) h =
     let q = sender-takes F i j f es h in
-    omega (arith, takes-more i j (inFirst F (sending a b c m)) (sending a b c m) (keep (inFirst F) es))
+    omega (arith, takes-more i j (inFirst F (acting x m)) (acting x m) (keep (inFirst F) es))
 sender-takes F i j f (receiving a b c m ∷ es) h = go (sender-takes F i j f es)
     (or-cases (isSender j i (receiving a b c m)) (senderOf j i es) h)
   where
@@ -73,11 +73,11 @@ sender-takes F i j f (receiving a b c m ∷ es) h = go (sender-takes F i j f es)
 
 takes-sender : (F : ℕ → Bool) (i j : ℕ) (es : List Event) → 0 < takes i j (map untag (keep (inFirst F) es)) → senderOf j i es ≡ true
 takes-sender F i j [] h = absurd (omega arith)
-takes-sender F i j (sending a b c m ∷ es) h = go (takes-sender F i j es) (inFirst F (sending a b c m)) h
+takes-sender F i j (acting x m ∷ es) h = go (takes-sender F i j es) (inFirst F (acting x m)) h
   where
     go : (0 < takes i j (map untag (keep (inFirst F) es)) → senderOf j i es ≡ true) → (p : Bool)
-        → 0 < takes i j (map untag (cons-if p (sending a b c m) (keep (inFirst F) es))) → senderOf j i es ≡ true
-    go ih true w = ih w
+        → 0 < takes i j (map untag (cons-if p (acting x m) (keep (inFirst F) es))) → senderOf j i es ≡ true
+    go ih true w = ih (omega (arith, x .none-taken i j (map untag (keep (inFirst F) es))))
     go ih false w = ih w
 takes-sender F i j (receiving a b c m ∷ es) h = go (takes-sender F i j es) (inFirst F (receiving a b c m)) refl
     (eqb i a && eqb j b) refl h

@@ -11,7 +11,7 @@ use borrow.Author.Tests.{lt-ltb, le-ltb}
 use Rattle.rules.specs.Opening.{Opening}
 use Rattle.rules.specs.Change.{on, join, cons-if}
 use Rattle.rules.specs.Sets.{nobody}
-use Rattle.rules.specs.Zone.{hasCheckpoint, saved, sent, received, checkpointAfter, requested, madePermanent}
+use Rattle.rules.specs.Zone.{hasCheckpoint, saved, received, checkpointAfter, requested, madePermanent}
 use Rattle.rules.specs.Park.{Move, owner, own, counted, insideFrom, outsideFrom, inside, outside}
 use Rattle.rules.specs.declared.Local.{Local}
 use Rattle.rules.specs.declared.Saved.{Saved}
@@ -22,7 +22,7 @@ use Rattle.rules.proofs.Guarded.{on-true, on-swap, on-map, on-same, on-
 use Rattle.rules.proofs.Lists.{keep, keep-join, cons-append, map-append, map-join, map-cons-if}
 use Rattle.rules.proofs.Tagged.{Event, zoneOf, isPost}
 use Rattle.rules.proofs.Untagged.{untag, owner-untag}
-use Rattle.rules.proofs.History.{History, openH, sendingOf, receivingOf, sendH, receiveH, popH, turnH, beginH, movesOf}
+use Rattle.rules.proofs.History.{History, openH, actingOf, receivingOf, acted, ownH, receiveH, popH, turnH, beginH, movesOf}
 use Rattle.rules.proofs.Kept.{Kept}
 use Rattle.rules.proofs.Cutting.{inFirst, inSecond}
 
@@ -77,12 +77,12 @@ none-inside : (ev n : ℕ) → n ≡ 0 → ltb ev n ≡ false
 none-inside ev n e = le-ltb ev n (omega arith)
 
 -- What fits after a zone's event fits before it, and says whether the event is inside: it is if it comes before the checkpoint.
-fit-send : (p : Bool) (k : Checkpoint) (ev n : ℕ) → eventsAt k ≤ ev → Fit p k (ev + 1) n
+fit-own : (p : Bool) (k : Checkpoint) (ev n : ℕ) → eventsAt k ≤ ev → Fit p k (ev + 1) n
     → Fit p k ev n × (ltb ev n ≡ p && not (hasCheckpoint k))
-fit-send false k ev n le f = (f, none-inside ev n f)
-fit-send true None ev n le f = (omega arith, lt-ltb ev n (omega arith))
-fit-send true (Mutable s) ev n le f = (f, le-ltb ev n (omega arith))
-fit-send true (Permanent s) ev n le f = (f, le-ltb ev n (omega arith))
+fit-own false k ev n le f = (f, none-inside ev n f)
+fit-own true None ev n le f = (omega arith, lt-ltb ev n (omega arith))
+fit-own true (Mutable s) ev n le f = (f, le-ltb ev n (omega arith))
+fit-own true (Permanent s) ev n le f = (f, le-ltb ev n (omega arith))
 
 fit-receive : (p : Bool) (k : Checkpoint) (now : Saved) (flag : Bool) (n : ℕ) → eventsAt k ≤ now .events
     → Fit p (checkpointAfter k now flag) (now .events + 1) n
@@ -169,10 +169,10 @@ turn-counts b set h q = record {
 
 pub counts-kept : Kept Counts
 counts-kept = record {
-  at-send = λ a b c h _ q. one-counts h (sendH a b c h) (sendingOf a b c (h .now)) (sent c) refl (λ k. refl) (λ z. refl)
+  at-own = λ x h _ q. one-counts h (ownH x h) (actingOf x (h .now)) (acted x) refl (λ k. refl) (λ z. refl)
       (λ z le. omega arith)
-      (λ p z n le f. (fit-send p (z .checkpoint) (z .events) n le f) .0)
-      (λ p n le f. (fit-send p (h .now .zone a .checkpoint) (h .now .zone a .events) n le f) .1) q;
+      (λ p z n le f. (fit-own p (z .checkpoint) (z .events) n le f) .0)
+      (λ p n le f. (fit-own p (h .now .zone (x .zone) .checkpoint) (h .now .zone (x .zone) .events) n le f) .1) q;
   at-receive = λ a b c flag l h _ q. one-counts h (receiveH a b c flag h) (receivingOf a b c flag (h .now)) (received a c flag) refl
       (λ k. refl) (λ z. refl)
       (λ z le. past-after (z .checkpoint) (saved z) flag le)

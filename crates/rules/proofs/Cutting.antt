@@ -4,13 +4,13 @@ use mathlib.Core.Path.{_≡_, refl, sym, _∙_, ap, subst}
 use mathlib.Core.Bool.{Bool, true, false, _&&_, _||_, not, false≢true, true≢false}
 use mathlib.Core.Logic.{_≢_}
 use mathlib.Core.List.{List, [], _∷_, append-nil, map, tail}
-use Prim.Native.Nat.{ℕ, _+_, _-_, _≤_}
+use Prim.Native.Nat.{ℕ, _+_, _≤_}
 use lib.Dec.{eqb}
 use borrow.Author.Tests.{eqb-true, not-true}
 use Rattle.rules.specs.Opening.{Opening}
 use Rattle.rules.specs.Change.{on, join}
 use Rattle.rules.specs.Sets.{has, nobody}
-use Rattle.rules.specs.Zone.{hasCheckpoint, saved, sent, received, checkpointAfter, requested, madePermanent, targets, carried, opened}
+use Rattle.rules.specs.Zone.{hasCheckpoint, saved, received, checkpointAfter, requested, madePermanent, targets, carried, opened}
 use Rattle.rules.specs.Site.{Item, message, request}
 use Rattle.rules.specs.Cut.{carsOn, present}
 use Rattle.rules.specs.declared.Local.{Local}
@@ -20,10 +20,11 @@ use Rattle.rules.specs.declared.Checkpoint.the-variants.{None, Mutable, 
 use Rattle.rules.proofs.Tests.{eqb-refl, or-left, or-right, or-off-left, or-off-right, and-left, and-right}
 use Rattle.rules.proofs.Guarded.{on-keeps, on-same, on-same-at, on-map, on-map-at, on-true}
 use Rattle.rules.proofs.Lists.{All, all-map, all-keep, keep, keep-join}
-use Rattle.rules.proofs.Tagged.{Tagged, Event, sending, receiving, zoneOf, isPost, TaggedPark, tagged, handedT, takenT, Step, Apart, tagged≡, Steps, steps-join, forward}
+use Rattle.rules.proofs.Acts.{Act}
+use Rattle.rules.proofs.Tagged.{Tagged, Event, acting, receiving, zoneOf, isPost, TaggedPark, tagged, actedT, takenT, Step, Apart, tagged≡, Steps, steps-join, forward}
 use Rattle.rules.proofs.Untagged.{carsOf, plain, park≡}
 use Rattle.rules.proofs.Checkpoints.{has-depsAfter}
-use Rattle.rules.proofs.History.{History, openH, NoCheckpoint, Depends, sendingOf, receivingOf, sendH, receiveH, popH, turnH, beginH, at-channel}
+use Rattle.rules.proofs.History.{History, openH, NoCheckpoint, Depends, actingOf, receivingOf, acted, ownH, receiveH, popH, turnH, beginH, at-channel}
 use Rattle.rules.proofs.Kept.{Kept}
 use Rattle.rules.proofs.Dependencies.{PreOnly, pre-kept}
 
@@ -98,11 +99,11 @@ messages-drop : (p : Bool) (l : List Item) (set : ℕ) (r : List Item) → (p �
 messages-drop true l set r e = rw (e refl)
 messages-drop false l set r e = refl
 
-park-send : (a b c : ℕ) (h : History) → parkOf (sendH a b c h) ≡ handedT a b c (hasCheckpoint (h .now .zone a .checkpoint)) (parkOf h)
-park-send a b c h = tagged≡ _ _
-    (λ k. on-map (λ (z : Local). z .stock) (eqb k a) (sent c) (λ n. n - c) (h .now .zone k) refl)
-    (λ i j. on-map messages (eqb i a && eqb j b) _ _ (h .now .channel i j)
-    (messages-join (h .now .channel i j) c (hasCheckpoint (h .now .zone a .checkpoint))))
+park-own : (x : Act) (h : History) → parkOf (ownH x h) ≡ actedT x (hasCheckpoint (h .now .zone (x .zone) .checkpoint)) (parkOf h)
+park-own x h = tagged≡ _ _
+    (λ k. on-map (λ (z : Local). z .stock) (eqb k (x .zone)) (acted x) (x .change) (h .now .zone k) refl)
+    (λ i j. on-map messages (eqb i (x .zone) && x .goes j) _ _ (h .now .channel i j)
+    (messages-join (h .now .channel i j) (x .cars) (hasCheckpoint (h .now .zone (x .zone) .checkpoint))))
 
 park-receive : (a b c : ℕ) (flag : Bool) (l : List Item) (h : History) → h .now .channel a b ≡ message c flag ∷ l
     → parkOf (receiveH a b c flag h) ≡ takenT a b c (parkOf h)
@@ -160,10 +161,10 @@ not-own F h z f u e k t q =
     let x : inSecond F e ≡ false = rw (w, q, f) in
     true≢false (sym t ∙ x)
 
-apart-send : (F : ℕ → Bool) (h : History) (a b c : ℕ) (m : Bool) → F a ≡ true → NoCheckpoint h a
-    → (e : Event) → (NoCheckpoint h (zoneOf e) → isPost e ≡ false) → inSecond F e ≡ true → Apart e (sending a b c m)
-apart-send F h a b c m f u (sending x y d n) k t = not-own F h a f u (sending x y d n) k t
-apart-send F h a b c m f u (receiving x y d n) k t = not-own F h a f u (receiving x y d n) k t
+apart-own : (F : ℕ → Bool) (h : History) (x : Act) (m : Bool) → F (x .zone) ≡ true → NoCheckpoint h (x .zone)
+    → (e : Event) → (NoCheckpoint h (zoneOf e) → isPost e ≡ false) → inSecond F e ≡ true → Apart e (acting x m)
+apart-own F h x m f u (acting y n) k t = not-own F h (x .zone) f u (acting y n) k t
+apart-own F h x m f u (receiving a b c n) k t = not-own F h (x .zone) f u (receiving a b c n) k t
 
 -- An event of a zone of F in the second part comes after the zone's checkpoint.
 post-second : (p n : Bool) → p ≡ true → not (p && not n) ≡ true → n ≡ true
@@ -173,8 +174,8 @@ post-second false n e t = absurd (false≢true e)
 
 apart-receive : (F : ℕ → Bool) (h : History) (a b c : ℕ) (m : Bool) → m ≡ false → F a ≡ true → F b ≡ true → NoCheckpoint h b
     → (e : Event) → (NoCheckpoint h (zoneOf e) → isPost e ≡ false) → inSecond F e ≡ true → Apart e (receiving a b c m)
-apart-receive F h a b c m q fa f u (sending x y d n) k t =
-    (not-own F h b f u (sending x y d n) k t, q, λ w. post-second (F x) n (ap F w ∙ fa) t)
+apart-receive F h a b c m q fa f u (acting x n) k t =
+    (not-own F h b f u (acting x n) k t, q, λ w. post-second (F (x .zone)) n (ap F w ∙ fa) t)
 apart-receive F h a b c m q fa f u (receiving x y d n) k t = not-own F h b f u (receiving x y d n) k t
 
 -- One more event e, by which h becomes t.
@@ -207,24 +208,25 @@ module _ (v : Opening) (F : ℕ → Bool) (h t : History) (e : Event) (step : St
   }
 
 -- What a zone holds after an event of the first part, and after one of the second.
-stock-sent : (k : Checkpoint) (v w : ℕ) → not (hasCheckpoint k) ≡ false → stockAt k v ≡ stockAt k w
-stock-sent None v w e = absurd (true≢false e)
-stock-sent (Mutable s) v w e = refl
-stock-sent (Permanent s) v w e = refl
+stock-saved : (k : Checkpoint) (v w : ℕ) → not (hasCheckpoint k) ≡ false → stockAt k v ≡ stockAt k w
+stock-saved None v w e = absurd (true≢false e)
+stock-saved (Mutable s) v w e = refl
+stock-saved (Permanent s) v w e = refl
 
-stock-send : (k : Checkpoint) (v c : ℕ) → not (hasCheckpoint k) ≡ true → stockAt k (v - c) ≡ stockAt k v - c
-stock-send None v c e = refl
-stock-send (Mutable s) v c e = absurd (false≢true e)
-stock-send (Permanent s) v c e = absurd (false≢true e)
+stock-now : (k : Checkpoint) (v : ℕ) → not (hasCheckpoint k) ≡ true → stockAt k v ≡ v
+stock-now None v e = refl
+stock-now (Mutable s) v e = absurd (false≢true e)
+stock-now (Permanent s) v e = absurd (false≢true e)
 
-held-send : (p : Bool) (c : ℕ) (z : Local) (o : ℕ) → p && not (hasCheckpoint (z .checkpoint)) ≡ true
-    → held p (sent c z) o ≡ held p z o - c
-held-send true c z o e = stock-send (z .checkpoint) (z .stock) c e
-held-send false c z o e = absurd (false≢true e)
+held-own : (p : Bool) (x : Act) (z : Local) (o : ℕ) → p && not (hasCheckpoint (z .checkpoint)) ≡ true
+    → held p (acted x z) o ≡ x .change (held p z o)
+held-own true x z o e = stock-now (z .checkpoint) _ e ∙ sym (ap (x .change) (stock-now (z .checkpoint) (z .stock) e))
+held-own false x z o e = absurd (false≢true e)
 
-held-sent : (p : Bool) (c : ℕ) (z : Local) (o : ℕ) → p && not (hasCheckpoint (z .checkpoint)) ≡ false → held p (sent c z) o ≡ held p z o
-held-sent true c z o e = stock-sent (z .checkpoint) (z .stock - c) (z .stock) e
-held-sent false c z o e = refl
+held-owned : (p : Bool) (x : Act) (z : Local) (o : ℕ) → p && not (hasCheckpoint (z .checkpoint)) ≡ false
+    → held p (acted x z) o ≡ held p z o
+held-owned true x z o e = stock-saved (z .checkpoint) _ (z .stock) e
+held-owned false x z o e = refl
 
 stock-receive : (k : Checkpoint) (now : Saved) (flag : Bool) (c : ℕ) → not (hasCheckpoint k || flag) ≡ true
     → stockAt (checkpointAfter k now flag) (now .stock + c) ≡ stockAt k (now .stock) + c
@@ -250,37 +252,41 @@ held-received : (p : Bool) (a c : ℕ) (flag : Bool) (z : Local) (o : ℕ) → p
 held-received true a c flag z o e = stock-received (z .checkpoint) (saved z) flag c e
 held-received false a c flag z o e = refl
 
-send-cuts : (v : Opening) (a b c : ℕ) (h : History) → c ≤ h .now .zone a .stock → PreOnly h → Cuts v h → Cuts v (sendH a b c h)
-send-cuts v a b c h le pre cuts F closed = go (inFirst F e) refl
+own-cuts : (v : Opening) (x : Act) (h : History) → x .needs ≤ h .now .zone (x .zone) .stock → PreOnly h → Cuts v h
+    → Cuts v (ownH x h)
+own-cuts v x h le pre cuts F closed = go (inFirst F e) refl
   where
+    a : ℕ
+    a = x .zone
+
     m : Bool
     m = hasCheckpoint (h .now .zone a .checkpoint)
 
     e : Event
-    e = sendingOf a b c (h .now)
+    e = actingOf x (h .now)
 
     t : History
-    t = sendH a b c h
+    t = ownH x h
 
     r : Halves v F h
-    r = cuts F (λ j i f q. closed j i f (on-same (λ (z : Local). has (z .deps) i) (eqb j a) (sent c) (h .now .zone j) refl ∙ q))
+    r = cuts F (λ j i f q. closed j i f (on-same (λ (z : Local). has (z .deps) i) (eqb j a) (acted x) (h .now .zone j) refl ∙ q))
 
     step : Step e (parkOf h) (parkOf t)
-    step = (le, park-send a b c h)
+    step = (le, park-own x h)
 
     same : (z : ℕ) (p : Bool) → eqb z a ≡ true → inFirst F e ≡ p → F z && not (hasCheckpoint (h .now .zone z .checkpoint)) ≡ p
     same z p q w = ap (λ (k : ℕ). F k && not (hasCheckpoint (h .now .zone k .checkpoint))) (eqb-true z a q) ∙ w
 
     go : (p : Bool) → inFirst F e ≡ p → Halves v F t
     go true q = one-first v F h t e step refl r q
-        (all-map _ _ (h .log) (λ x k w. apart-send F h a b c m (and-left (F a) (not m) q)
-        (not-true m (and-right (F a) (not m) q)) x k w) pre)
-        (λ y st z. ap (λ (Y : TaggedPark). Y .stock z) (st .1) ∙ ap (on (eqb z a) (λ n. n - c)) (r .stocks z)
-        ∙ sym (on-map-at (λ (w : Local). held (F z) w (v .stocks z)) (eqb z a) (sent c) (λ n. n - c) (h .now .zone z)
-        (λ w. held-send (F z) c (h .now .zone z) (v .stocks z) (same z true w q))))
+        (all-map _ _ (h .log) (λ y k w. apart-own F h x m (and-left (F a) (not m) q)
+        (not-true m (and-right (F a) (not m) q)) y k w) pre)
+        (λ y st z. ap (λ (Y : TaggedPark). Y .stock z) (st .1) ∙ ap (on (eqb z a) (x .change)) (r .stocks z)
+        ∙ sym (on-map-at (λ (w : Local). held (F z) w (v .stocks z)) (eqb z a) (acted x) (x .change) (h .now .zone z)
+        (λ w. held-own (F z) x (h .now .zone z) (v .stocks z) (same z true w q))))
     go false q = one-second v F h t e step refl r q
-        (λ z. on-same-at (λ (w : Local). held (F z) w (v .stocks z)) (eqb z a) (sent c) (h .now .zone z)
-        (λ w. held-sent (F z) c (h .now .zone z) (v .stocks z) (same z false w q)))
+        (λ z. on-same-at (λ (w : Local). held (F z) w (v .stocks z)) (eqb z a) (acted x) (h .now .zone z)
+        (λ w. held-owned (F z) x (h .now .zone z) (v .stocks z) (same z false w q)))
 
 receive-cuts : (v : Opening) (a b c : ℕ) (flag : Bool) (l : List Item) (h : History) → h .now .channel a b ≡ message c flag ∷ l
     → PreOnly h → Cuts v h → Cuts v (receiveH a b c flag h)
@@ -336,7 +342,7 @@ receive-cuts v a b c flag l h at pre cuts F closed = go (inFirst F e) refl
 
 pub cuts-kept : (v : Opening) → Kept (λ h. PreOnly h × Cuts v h)
 cuts-kept v = record {
-  at-send = λ a b c h le q. (pre-kept .at-send a b c h le (q .0), send-cuts v a b c h le (q .0) (q .1));
+  at-own = λ x h le q. (pre-kept .at-own x h le (q .0), own-cuts v x h le (q .0) (q .1));
   at-receive = λ a b c flag l h e q. (pre-kept .at-receive a b c flag l h e (q .0), receive-cuts v a b c flag l h e (q .0) (q .1));
   at-drop = λ a b set l h e p q. (
     pre-kept .at-drop a b set l h e p (q .0),

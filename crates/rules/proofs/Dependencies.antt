@@ -9,15 +9,16 @@ use borrow.Author.Tests.{eqb-true}
 use Rattle.rules.specs.Opening.{Opening}
 use Rattle.rules.specs.Change.{on, join}
 use Rattle.rules.specs.Sets.{has, nobody}
-use Rattle.rules.specs.Zone.{hasCheckpoint, sent, received, requested}
+use Rattle.rules.specs.Zone.{hasCheckpoint, received, requested}
 use Rattle.rules.specs.declared.Local.{Local}
 use Rattle.rules.proofs.SetLaws.{has-only}
 use Rattle.rules.proofs.Tests.{eqb-refl, or-off-left}
 use Rattle.rules.proofs.Guarded.{on-same, on-true, on-back}
 use Rattle.rules.proofs.Lists.{All, all-join, all-map}
-use Rattle.rules.proofs.Tagged.{Event, sending, receiving, zoneOf, isPost}
+use Rattle.rules.proofs.Acts.{Act}
+use Rattle.rules.proofs.Tagged.{Event, acting, receiving, zoneOf, isPost}
 use Rattle.rules.proofs.Checkpoints.{has-checkpoint-after, has-checkpoint-made, has-depsAfter}
-use Rattle.rules.proofs.History.{History, openH, NoCheckpoint, sendH, receiveH, popH, turnH, beginH}
+use Rattle.rules.proofs.History.{History, openH, NoCheckpoint, acted, ownH, receiveH, popH, turnH, beginH}
 use Rattle.rules.proofs.Kept.{Kept}
 
 -- Every event of a zone that has no checkpoint now counts as before its checkpoint.
@@ -25,8 +26,8 @@ abbrev pub PreOnly : History → Type 0
 PreOnly h = All (λ e. NoCheckpoint h (zoneOf e) → isPost e ≡ false) (h .log)
 
 -- A zone without a checkpoint after a step was so before it.
-no-checkpoint-send : (a b c : ℕ) (h : History) (k : ℕ) → NoCheckpoint (sendH a b c h) k → NoCheckpoint h k
-no-checkpoint-send a b c h k = on-back (λ (z : Local). hasCheckpoint (z .checkpoint) ≡ false) (eqb k a) (sent c) (h .now .zone k) (λ e. e)
+no-checkpoint-own : (x : Act) (h : History) (k : ℕ) → NoCheckpoint (ownH x h) k → NoCheckpoint h k
+no-checkpoint-own x h k = on-back (λ (z : Local). hasCheckpoint (z .checkpoint) ≡ false) (eqb k (x .zone)) (acted x) (h .now .zone k) (λ e. e)
 
 no-checkpoint-receive : (a b c : ℕ) (flag : Bool) (h : History) (k : ℕ) → NoCheckpoint (receiveH a b c flag h) k → NoCheckpoint h k
 no-checkpoint-receive a b c flag h k = on-back (λ (z : Local). hasCheckpoint (z .checkpoint) ≡ false) (eqb k b) (received a c flag)
@@ -43,8 +44,7 @@ later h t f p = all-map _ _ (h .log) (λ e g u. g (f (zoneOf e) u)) p
 
 pub pre-kept : Kept PreOnly
 pre-kept = record {
-  at-send = λ a b c h _ p. all-join _ (h .log) _ (later h (sendH a b c h) (no-checkpoint-send a b c h) p)
-      (λ e. no-checkpoint-send a b c h a e);
+  at-own = λ x h _ p. all-join _ (h .log) _ (later h (ownH x h) (no-checkpoint-own x h) p) (no-checkpoint-own x h (x .zone));
   at-receive = λ a b c flag l h _ p. all-join _ (h .log) _ (later h (receiveH a b c flag h) (no-checkpoint-receive a b c flag h) p)
       (λ e. sym (has-checkpoint-after (h .now .zone b .checkpoint) _ flag)
       ∙ sym (ap (λ (z : Local). hasCheckpoint (z .checkpoint)) (on-true (eqb b b) (received a c flag) (h .now .zone b) (eqb-refl b)))
@@ -56,7 +56,7 @@ pre-kept = record {
 
 -- Is the event a receipt by j from i before j's checkpoint?
 abbrev pub isSender : ℕ → ℕ → Event → Bool
-isSender j i (sending a b c m) = false
+isSender j i (acting x m) = false
 isSender j i (receiving a b c m) = not m && (eqb i a && eqb j b)
 
 -- Did j receive from i before its checkpoint?
@@ -86,7 +86,7 @@ receive-senders a b c flag h s j i = rw (sender-join j i (h .log) _) (go (eqb j 
 
 pub senders-kept : Kept Senders
 senders-kept = record {
-  at-send = λ a b c h _ s j i. on-same (λ (z : Local). has (z .deps) i) (eqb j a) (sent c) (h .now .zone j) refl ∙ s j i
+  at-own = λ x h _ s j i. on-same (λ (z : Local). has (z .deps) i) (eqb j (x .zone)) (acted x) (h .now .zone j) refl ∙ s j i
       ∙ ap (λ t. eqb i j || t) (sym (sender-join j i (h .log) _ ∙ or-false _));
   at-receive = λ a b c flag l h _ s. receive-senders a b c flag h s;
   at-drop = λ a b set l h _ _ s. s;

@@ -4,18 +4,20 @@ use mathlib.Core.Path.{_≡_, refl, sym, _∙_, ap}
 use mathlib.Core.Bool.{Bool, true, false, _&&_, _||_}
 use mathlib.Core.List.{List, [], _∷_, _++_, append-assoc, append-nil, map}
 use mathlib.Core.Option.{Option, none, some}
-use Prim.Native.Nat.{ℕ}
+use Prim.Native.Nat.{ℕ, _+_}
 use lib.Dec.{eqb}
 use Rattle.rules.specs.Opening.{Opening}
-use Rattle.rules.specs.Change.{join}
+use Rattle.rules.specs.Change.{on, join}
 use Rattle.rules.specs.Sets.{has}
 use Rattle.rules.specs.Zone.{hasCheckpoint, isPermanent}
-use Rattle.rules.specs.Site.{Item, message, request, Site, sendS, receiveS, popS, turnS, startS, Call, send, receive, start, stepS, openS}
+use Rattle.rules.specs.Site.{Item, message, request, Site, receiveS, popS, turnS, startS, Call, send, receive, start, stepS, openS}
 use Rattle.rules.specs.Park.{Move}
 use Rattle.rules.specs.Cut.{Allowed, run, taking, moveOf, moves}
+use Rattle.rules.specs.declared.Local.{Local}
 use Rattle.rules.proofs.Tests.{both-true}
 use Rattle.rules.proofs.Lists.{map-join}
-use Rattle.rules.proofs.Tagged.{Event, sending, receiving}
+use Rattle.rules.proofs.Acts.{Act, handing}
+use Rattle.rules.proofs.Tagged.{Event, acting, receiving}
 use Rattle.rules.proofs.Untagged.{untag}
 
 -- The site, the zone that started if one did, and the own events of all zones in order.
@@ -38,14 +40,25 @@ abbrev pub Depends : History → ℕ → ℕ → Type 0
 Depends h k i = has (h .now .zone k .deps) i ≡ true
 
 -- The steps. An event is tagged by whether its zone has a checkpoint; a flag gives the receiver one before it receives.
-abbrev pub sendingOf : ℕ → ℕ → ℕ → Site → Event
-sendingOf a b c s = sending a b c (hasCheckpoint (s .zone a .checkpoint))
+abbrev pub actingOf : Act → Site → Event
+actingOf x s = acting x (hasCheckpoint (s .zone (x .zone) .checkpoint))
 
 abbrev pub receivingOf : ℕ → ℕ → ℕ → Bool → Site → Event
 receivingOf a b c flag s = receiving a b c (hasCheckpoint (s .zone b .checkpoint) || flag)
 
-abbrev pub sendH : ℕ → ℕ → ℕ → History → History
-sendH a b c h = record { now = sendS a b c (h .now); initiator = h .initiator; log = join (sendingOf a b c (h .now)) (h .log) }
+-- An act changes its zone's stock, and keeps its dependency set and its checkpoint; its message has the flag if there is a checkpoint.
+abbrev pub acted : Act → Local → Local
+acted x z = record { stock = x .change (z .stock); deps = z .deps; events = z .events + 1; checkpoint = z .checkpoint }
+
+abbrev pub ownS : Act → Site → Site
+ownS x s = record {
+  zone = λ k. on (eqb k (x .zone)) (acted x) (s .zone k);
+  channel = λ i j. on (eqb i (x .zone) && x .goes j) (join (message (x .cars) (hasCheckpoint (s .zone (x .zone) .checkpoint))))
+      (s .channel i j);
+}
+
+abbrev pub ownH : Act → History → History
+ownH x h = record { now = ownS x (h .now); initiator = h .initiator; log = join (actingOf x (h .now)) (h .log) }
 
 abbrev pub receiveH : ℕ → ℕ → ℕ → Bool → History → History
 receiveH a b c flag h = record {
@@ -78,7 +91,7 @@ logTaken a b (message c flag ∷ l) s log = join (receivingOf a b c flag s) log
 logTaken a b (request set ∷ l) s log = log
 
 abbrev pub logAfter : Call → Site → List Event → List Event
-logAfter (send a b c) s log = join (sendingOf a b c s) log
+logAfter (send a b c) s log = join (actingOf (handing a b c) s) log
 logAfter (receive a b) s log = logTaken a b (s .channel a b) s log
 logAfter (start a) s log = log
 
@@ -91,6 +104,10 @@ history (c ∷ cs) h = history cs (stepH c h)
 
 abbrev pub movesOf : History → List Move
 movesOf h = map untag (h .log)
+
+-- A hand-over is an act.
+pub own-send : (a b c : ℕ) (h : History) → stepH (send a b c) h ≡ ownH (handing a b c) h
+own-send a b c h = refl
 
 -- The channel from i to k, where it is that from a to b.
 pub at-channel : (a b i k : ℕ) (h : History) (l : List Item) → eqb i a && eqb k b ≡ true → h .now .channel a b ≡ l

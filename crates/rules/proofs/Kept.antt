@@ -10,7 +10,7 @@ use borrow.Author.Tests.{eqb-true}
 use Rattle.rules.specs.Opening.{Opening}
 use Rattle.rules.specs.Change.{on, join}
 use Rattle.rules.specs.Sets.{nobody}
-use Rattle.rules.specs.Zone.{hasCheckpoint, isPermanent, sent, received, started, requested}
+use Rattle.rules.specs.Zone.{hasCheckpoint, isPermanent, received, started, requested}
 use Rattle.rules.specs.Site.{Item, message, request, popS, turnS, takeS, startS, Call, send, receive, start}
 use Rattle.rules.specs.Cut.{May, Allowed}
 use Rattle.rules.specs.declared.Local.{Local}
@@ -18,11 +18,12 @@ use Rattle.rules.proofs.Tests.{eqb-refl}
 use Rattle.rules.proofs.Guarded.{on-keeps, on-true}
 use Rattle.rules.proofs.Lists.{All, all-join, all-tail}
 use Rattle.rules.proofs.Checkpoints.{has-checkpoint-after, permanent-after, permanent-made, started-requested}
-use Rattle.rules.proofs.History.{History, openH, NoCheckpoint, IsPermanent, sendH, receiveH, popH, turnH, beginH, startH, logTaken, stepH, history}
+use Rattle.rules.proofs.Acts.{Act, handing}
+use Rattle.rules.proofs.History.{History, openH, NoCheckpoint, IsPermanent, acted, ownH, own-send, receiveH, popH, turnH, beginH, startH, logTaken, stepH, history}
 
 -- R leads from each history to the next, whatever the step.
 pub record Does {κ} (R : History → History → Type κ) : Type κ where
-  pub at-send : (a b c : ℕ) (h : History) → c ≤ h .now .zone a .stock → R h (sendH a b c h)
+  pub at-own : (x : Act) (h : History) → x .needs ≤ h .now .zone (x .zone) .stock → R h (ownH x h)
   pub at-receive : (a b c : ℕ) (flag : Bool) (l : List Item) (h : History) → h .now .channel a b ≡ message c flag ∷ l
       → R h (receiveH a b c flag h)
   pub at-drop : (a b set : ℕ) (l : List Item) (h : History) → h .now .channel a b ≡ request set ∷ l
@@ -50,14 +51,15 @@ some≢none e = let z : _≡_ {A = Bool} true false = cc in true≢false z
 
 fresh-kept : Kept Fresh
 fresh-kept = record {
-  at-send = λ a b c h _ f. record {
-    no-checkpoint = λ e z. on-keeps (λ (k : Local). hasCheckpoint (k .checkpoint) ≡ false) (eqb z a) (sent c) (h .now .zone z) (λ q. q)
-        (f .no-checkpoint e z);
-    calm = λ e i j. on-keeps (All Calm) (eqb i a && eqb j b) (join (message c (hasCheckpoint (h .now .zone a .checkpoint))))
+  at-own = λ x h _ f. record {
+    no-checkpoint = λ e z. on-keeps (λ (k : Local). hasCheckpoint (k .checkpoint) ≡ false) (eqb z (x .zone)) (acted x) (h .now .zone z)
+        (λ q. q) (f .no-checkpoint e z);
+    calm = λ e i j. on-keeps (All Calm) (eqb i (x .zone) && x .goes j)
+        (join (message (x .cars) (hasCheckpoint (h .now .zone (x .zone) .checkpoint))))
         (h .now .channel i j)
-        (λ w. all-join Calm (h .now .channel i j) _ w (f .no-checkpoint e a)) (f .calm e i j);
-    begun = λ x e. on-keeps (λ (k : Local). isPermanent (k .checkpoint) ≡ true) (eqb x a) (sent c) (h .now .zone x) (λ q. q)
-        (f .begun x e);
+        (λ w. all-join Calm (h .now .channel i j) _ w (f .no-checkpoint e (x .zone))) (f .calm e i j);
+    begun = λ a e. on-keeps (λ (k : Local). isPermanent (k .checkpoint) ≡ true) (eqb a (x .zone)) (acted x) (h .now .zone a) (λ q. q)
+        (f .begun a e);
   };
   at-receive = λ a b c flag l h at f. record {
     no-checkpoint = λ e z. on-keeps (λ (k : Local). hasCheckpoint (k .checkpoint) ≡ false) (eqb z b) (received a c flag) (h .now .zone z)
@@ -128,7 +130,7 @@ start-turn a h e = λ i. record {
 module _ {κ} (R : History → History → Type κ) (does : Does R) where
   -- One allowed call.
   pub call-does : (c : Call) (h : History) → Fresh h → May c (h .now) → R h (stepH c h)
-  call-does (send a b c) h f may = does .at-send a b c h may
+  call-does (send a b c) h f may = subst (R h) (sym (own-send a b c h)) (does .at-own (handing a b c) h may)
   call-does (receive a b) h f may = go (h .now .channel a b) refl
     where
       turn : (set : ℕ) (l : List Item) (p : Bool) → h .now .channel a b ≡ request set ∷ l

@@ -2,6 +2,7 @@ pub mod SetLaws
 pub mod Tests
 pub mod Guarded
 pub mod Lists
+pub mod Acts
 pub mod Tagged
 pub mod Untagged
 pub mod Checkpoints

@@ -11,7 +11,7 @@ use borrow.Author.Tests.{eqb-true}
 use Rattle.rules.specs.Opening.{Opening}
 use Rattle.rules.specs.Change.{on, join}
 use Rattle.rules.specs.Sets.{has, nobody}
-use Rattle.rules.specs.Zone.{hasCheckpoint, isPermanent, depsAfter, sent, received, requested, targets, carried}
+use Rattle.rules.specs.Zone.{hasCheckpoint, isPermanent, depsAfter, received, requested, targets, carried}
 use Rattle.rules.specs.Site.{Item, message, request, waits}
 use Rattle.rules.specs.declared.Local.{Local}
 use Rattle.rules.specs.declared.Checkpoint.{Checkpoint}
@@ -21,7 +21,8 @@ use Rattle.rules.proofs.Tests.{Same, same?, and-left, and-right, or-cas
 use Rattle.rules.proofs.Guarded.{on-keeps, on-same, on-true, on-false}
 use Rattle.rules.proofs.Lists.{All, all-join, all-tail, all-map}
 use Rattle.rules.proofs.Checkpoints.{permanent-after, permanent-made, has-depsAfter, has-targets, has-carried}
-use Rattle.rules.proofs.History.{History, openH, IsPermanent, Depends, sendH, receiveH, popH, turnH, beginH, at-channel}
+use Rattle.rules.proofs.Acts.{Act}
+use Rattle.rules.proofs.History.{History, openH, IsPermanent, Depends, acted, ownH, receiveH, popH, turnH, beginH, at-channel}
 use Rattle.rules.proofs.Kept.{Kept, some≢none}
 
 -- Permanent, or a request is coming.
@@ -219,23 +220,23 @@ still-flow h t g back depended st wait fair flow = record {
     due k (inl e) = inl (g .permanents k e)
     due k (inr (i, w)) = inr (i, wait k i w)
 
-send-flow : (a b c : ℕ) (h : History) → Flow (Due h) h → Flow (Due (sendH a b c h)) (sendH a b c h)
-send-flow a b c h = still-flow h (sendH a b c h)
+own-flow : (x : Act) (h : History) → Flow (Due h) h → Flow (Due (ownH x h)) (ownH x h)
+own-flow x h = still-flow h (ownH x h)
     (record { permanents = λ k e. same k ∙ e; dependencies = λ k i e. depends k i ∙ e })
     (λ k e. sym (same k) ∙ e) (λ k i _ e. sym (depends k i) ∙ e) refl
-    (λ k i w. on-keeps (λ (l : List Item). waits l ≡ true) (eqb i a && eqb k b) (join x) (h .now .channel i k)
-    (waits-join (h .now .channel i k) x) w)
-    (λ i j q. on-keeps (All _) (eqb i a && eqb j b) (join x) (h .now .channel i j)
-    (λ q′. all-join _ (h .now .channel i j) x q′ tt) q)
+    (λ k i w. on-keeps (λ (l : List Item). waits l ≡ true) (eqb i (x .zone) && x .goes k) (join y) (h .now .channel i k)
+    (waits-join (h .now .channel i k) y) w)
+    (λ i j q. on-keeps (All _) (eqb i (x .zone) && x .goes j) (join y) (h .now .channel i j)
+    (λ q′. all-join _ (h .now .channel i j) y q′ tt) q)
   where
-    x : Item
-    x = message c (hasCheckpoint (h .now .zone a .checkpoint))
+    y : Item
+    y = message (x .cars) (hasCheckpoint (h .now .zone (x .zone) .checkpoint))
 
-    same : (k : ℕ) → isPermanent ((sendH a b c h) .now .zone k .checkpoint) ≡ isPermanent (h .now .zone k .checkpoint)
-    same k = on-same (λ (z : Local). isPermanent (z .checkpoint)) (eqb k a) (sent c) (h .now .zone k) refl
+    same : (k : ℕ) → isPermanent ((ownH x h) .now .zone k .checkpoint) ≡ isPermanent (h .now .zone k .checkpoint)
+    same k = on-same (λ (z : Local). isPermanent (z .checkpoint)) (eqb k (x .zone)) (acted x) (h .now .zone k) refl
 
-    depends : (k i : ℕ) → has ((sendH a b c h) .now .zone k .deps) i ≡ has (h .now .zone k .deps) i
-    depends k i = on-same (λ (z : Local). has (z .deps) i) (eqb k a) (sent c) (h .now .zone k) refl
+    depends : (k i : ℕ) → has ((ownH x h) .now .zone k .deps) i ≡ has (h .now .zone k .deps) i
+    depends k i = on-same (λ (z : Local). has (z .deps) i) (eqb k (x .zone)) (acted x) (h .now .zone k) refl
 
 -- A permanent zone's dependency set stays.
 permanent-deps : (k : Checkpoint) (deps from : ℕ) (flag : Bool) → isPermanent k ≡ true → depsAfter k deps from flag ≡ deps
@@ -275,7 +276,7 @@ receive-flow a b c flag l h e = still-flow h t
 
 pub flow-kept : Kept (λ h. Flow (Due h) h)
 flow-kept = record {
-  at-send = λ a b c h _ flow. send-flow a b c h flow;
+  at-own = λ x h _ flow. own-flow x h flow;
   at-receive = λ a b c flag l h e flow. receive-flow a b c flag l h e flow;
   at-drop = λ a b set l h e p flow. flow-map _ (Due (popH a b h)) (popH a b h) (λ k. permanent-due a b h p k) (pop-flow a b h flow);
   at-request = λ a b set l h e p flow. let q = first a b set l h e (flow .fair a b) in

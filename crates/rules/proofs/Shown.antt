@@ -9,7 +9,7 @@ use lib.Dec.{eqb}
 use Rattle.rules.specs.Opening.{Opening}
 use Rattle.rules.specs.Change.{on}
 use Rattle.rules.specs.Sets.{nobody}
-use Rattle.rules.specs.Zone.{hasCheckpoint, isPermanent, saved, sent, received, checkpointAfter, started, requested, madePermanent}
+use Rattle.rules.specs.Zone.{hasCheckpoint, isPermanent, saved, received, checkpointAfter, started, requested, madePermanent}
 use Rattle.rules.specs.Site.{Site, Call, send, receive, start, stepS, openS}
 use Rattle.rules.specs.Park.{own}
 use Rattle.rules.specs.Cut.{Allowed, run, moves, eventsOf, Checkpointing, Starting}
@@ -20,7 +20,7 @@ use Rattle.rules.specs.declared.Checkpoint.the-variants.{None, Mutable, 
 use Rattle.rules.proofs.Tests.{eqb-refl}
 use Rattle.rules.proofs.Guarded.{on-true}
 use Rattle.rules.proofs.Checkpoints.{permanent-has-checkpoint}
-use Rattle.rules.proofs.History.{History, openH, popH, turnH, beginH, stepH, history, now-run, moves-open, history-append, allowed-append}
+use Rattle.rules.proofs.History.{History, openH, acted, popH, turnH, beginH, stepH, history, now-run, moves-open, history-append, allowed-append}
 use Rattle.rules.proofs.Kept.{Does, Kept, Fresh, some≢none, fresh-open, first-start, call-does, fresh-call, calls-keep, fresh-calls}
 use Rattle.rules.proofs.Counting.{eventsAt, counts-kept, counts-open, Counts}
 
@@ -57,7 +57,7 @@ turn-onward b set h z = next-on (eqb z b) requested (h .now .zone z)
 
 onward : Does Onward
 onward = record {
-  at-send = λ a b c h _ z. next-on (eqb z a) (sent c) (h .now .zone z)
+  at-own = λ x h _ z. next-on (eqb z (x .zone)) (acted x) (h .now .zone z)
       (next-same (h .now .zone z .checkpoint) (h .now .zone z .events));
   at-receive = λ a b c flag l h _ z. next-on (eqb z b) (received a c flag) (h .now .zone z)
       (next-after (h .now .zone z .checkpoint) (saved (h .now .zone z)) flag);
@@ -138,7 +138,7 @@ checkpointed-once v cs z p =
 -- The initiator stays: a second start is not allowed.
 initiator-kept : (a : ℕ) → Kept (λ h. h .initiator ≡ some a)
 initiator-kept a = record {
-  at-send = λ _ b c h _ q. q;
+  at-own = λ x h _ q. q;
   at-receive = λ _ b c flag l h _ q. q;
   at-drop = λ _ b set l h _ _ q. q;
   at-request = λ _ b set l h _ _ q. q;

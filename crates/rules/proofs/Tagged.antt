@@ -4,30 +4,31 @@ use mathlib.Core.Path.{_≡_, refl, sym, _∙_, ap, subst}
 use mathlib.Core.Bool.{Bool, true, false, _&&_, true≢false}
 use mathlib.Core.Logic.{_≢_}
 use mathlib.Core.List.{List, [], _∷_, tail}
-use Prim.Native.Nat.{ℕ, _+_, _-_, _≤_}
+use Prim.Native.Nat.{ℕ, _+_, _≤_}
 use lib.Dec.{eqb}
-use borrow.Author.Tests.{ne-eqb}
+use borrow.Author.Tests.{eqb-true, ne-eqb}
 use Rattle.rules.specs.Change.{on, join}
-use Rattle.rules.proofs.Tests.{apart, apart-senders, apart-receivers, both-true, other-receiver}
+use Rattle.rules.proofs.Tests.{and-left, apart, apart-senders, apart-receivers, both-true, other-receiver}
 use Rattle.rules.proofs.Guarded.{on-apart, on-swap-at, on-false}
 use Rattle.rules.proofs.Lists.{All}
+use Rattle.rules.proofs.Acts.{Act}
 
 -- A message on a channel; post: its sender had a checkpoint when it was sent.
 pub record Tagged : Type 0 where
   pub cars : ℕ
   pub post : Bool
 
--- An own event of a zone; post: it comes after the zone's checkpoint.
+-- An own event of a zone, an act or a receipt; post: it comes after the zone's checkpoint.
 pub data Event : Type 0 where
-  sending : (from to cars : ℕ) (post : Bool) → Event
+  acting : (act : Act) (post : Bool) → Event
   receiving : (from to cars : ℕ) (post : Bool) → Event
 
 abbrev pub zoneOf : Event → ℕ
-zoneOf (sending a b c m) = a
+zoneOf (acting x m) = x .zone
 zoneOf (receiving a b c m) = b
 
 abbrev pub isPost : Event → Bool
-isPost (sending a b c m) = m
+isPost (acting x m) = m
 isPost (receiving a b c m) = m
 
 pub record TaggedPark : Type 0 where
@@ -37,10 +38,10 @@ pub record TaggedPark : Type 0 where
 abbrev pub tagged : ℕ → Bool → Tagged
 tagged c m = record { cars = c; post = m }
 
-abbrev pub handedT : ℕ → ℕ → ℕ → Bool → TaggedPark → TaggedPark
-handedT a b c m S = record {
-  stock = λ k. on (eqb k a) (λ v. v - c) (S .stock k);
-  channel = λ i j. on (eqb i a && eqb j b) (join (tagged c m)) (S .channel i j);
+abbrev pub actedT : Act → Bool → TaggedPark → TaggedPark
+actedT x m S = record {
+  stock = λ k. on (eqb k (x .zone)) (x .change) (S .stock k);
+  channel = λ i j. on (eqb i (x .zone) && x .goes j) (join (tagged (x .cars) m)) (S .channel i j);
 }
 
 abbrev pub takenT : ℕ → ℕ → ℕ → TaggedPark → TaggedPark
@@ -49,9 +50,9 @@ takenT a b c S = record {
   channel = λ i j. on (eqb i a && eqb j b) tail (S .channel i j);
 }
 
--- The event e leads from S to T: the stock covers the cars; a receipt that counts as before takes a message that does so too.
+-- The event e leads from S to T: the stock has what an act needs; a receipt that counts as before takes a message that does so too.
 abbrev pub Step : Event → TaggedPark → TaggedPark → Type 0
-Step (sending a b c m) S T = (c ≤ S .stock a) × (T ≡ handedT a b c m S)
+Step (acting x m) S T = (x .needs ≤ S .stock (x .zone)) × (T ≡ actedT x m S)
 Step (receiving a b c m) S T =
     (l : Tagged) × (r : List Tagged) × (S .channel a b ≡ l ∷ r) × (m ≡ false → l .post ≡ false) × (T ≡ takenT a b c S)
     × (l .cars ≡ c)
@@ -59,9 +60,9 @@ Step (receiving a b c m) S T =
 -- What lets e, then f be done as f, then e: they are of different zones; and a receipt f does not take what e sent, since f counts
 -- as before, and e, if it sends on f's channel, as after.
 abbrev pub Apart : Event → Event → Type 0
-Apart (sending a b c m) (sending x y d n) = a ≢ x
-Apart (sending a b c m) (receiving x y d n) = (a ≢ y) × (n ≡ false) × (a ≡ x → m ≡ true)
-Apart (receiving a b c m) (sending x y d n) = b ≢ x
+Apart (acting x m) (acting y n) = x .zone ≢ y .zone
+Apart (acting x m) (receiving a b c n) = (x .zone ≢ b) × (n ≡ false) × (x .zone ≡ a → m ≡ true)
+Apart (receiving a b c m) (acting y n) = b ≢ y .zone
 Apart (receiving a b c m) (receiving x y d n) = b ≢ y
 
 pub tagged≡ : (S T : TaggedPark) → ((k : ℕ) → S .stock k ≡ T .stock k) → ((i j : ℕ) → S .channel i j ≡ T .channel i j) → S ≡ T
@@ -75,23 +76,24 @@ tail-join : (l : List Tagged) (z h : Tagged) (t : List Tagged) → l ≡ h ∷ t
 tail-join [] z h t e = cc
 tail-join (x ∷ l) z h t e = refl
 
-handed-handed : (a b c : ℕ) (m : Bool) (x y d : ℕ) (n : Bool) (S : TaggedPark) → a ≢ x
-    → handedT x y d n (handedT a b c m S) ≡ handedT a b c m (handedT x y d n S)
-handed-handed a b c m x y d n S ne = tagged≡ _ _
-    (λ k. on-apart (eqb k a) (eqb k x) _ _ (S .stock k) (apart a x ne k))
-    (λ i j. on-apart (eqb i a && eqb j b) (eqb i x && eqb j y) _ _ (S .channel i j) (apart-senders a b x y ne i j))
+acted-acted : (x : Act) (m : Bool) (y : Act) (n : Bool) (S : TaggedPark) → x .zone ≢ y .zone
+    → actedT y n (actedT x m S) ≡ actedT x m (actedT y n S)
+acted-acted x m y n S ne = tagged≡ _ _
+    (λ k. on-apart (eqb k (x .zone)) (eqb k (y .zone)) _ _ (S .stock k) (apart (x .zone) (y .zone) ne k))
+    (λ i j. on-apart (eqb i (x .zone) && x .goes j) (eqb i (y .zone) && y .goes j) _ _ (S .channel i j)
+    (apart-senders (x .zone) (y .zone) ne i (x .goes j) (y .goes j)))
 
 taken-taken : (a b c x y d : ℕ) (S : TaggedPark) → b ≢ y → takenT x y d (takenT a b c S) ≡ takenT a b c (takenT x y d S)
 taken-taken a b c x y d S ne = tagged≡ _ _
     (λ k. on-apart (eqb k b) (eqb k y) _ _ (S .stock k) (apart b y ne k))
     (λ i j. on-apart (eqb i a && eqb j b) (eqb i x && eqb j y) _ _ (S .channel i j) (apart-receivers a b x y ne i j))
 
-taken-handed : (a b c : ℕ) (m : Bool) (x y d : ℕ) (S : TaggedPark) (l : Tagged) (r : List Tagged) → a ≢ y → S .channel x y ≡ l ∷ r
-    → takenT x y d (handedT a b c m S) ≡ handedT a b c m (takenT x y d S)
-taken-handed a b c m x y d S l r ne e = tagged≡ _ _
-    (λ k. on-apart (eqb k a) (eqb k y) _ _ (S .stock k) (apart a y ne k))
-    (λ i j. on-swap-at (eqb i a && eqb j b) (eqb i x && eqb j y) _ _ (S .channel i j)
-    (λ t. let h = both-true i x j y t in tail-join (S .channel i j) _ l r (cc)))
+taken-acted : (x : Act) (m : Bool) (a b c : ℕ) (S : TaggedPark) (l : Tagged) (r : List Tagged) → x .zone ≢ b → S .channel a b ≡ l ∷ r
+    → takenT a b c (actedT x m S) ≡ actedT x m (takenT a b c S)
+taken-acted x m a b c S l r ne e = tagged≡ _ _
+    (λ k. on-apart (eqb k (x .zone)) (eqb k b) _ _ (S .stock k) (apart (x .zone) b ne k))
+    (λ i j. on-swap-at (eqb i (x .zone) && x .goes j) (eqb i a && eqb j b) _ _ (S .channel i j)
+    (λ t. let h = both-true i a j b t in tail-join (S .channel i j) _ l r (cc)))
 
 -- The first message of a channel to which one sent after was joined, where the message taken was sent before.
 first-message : (p : Bool) (s : List Tagged) (z l : Tagged) (r : List Tagged) → (p ≡ true → z .post ≡ true) → l .post ≡ false
@@ -106,35 +108,37 @@ join-cons false z l r = refl
 
 -- The exchange of two events.
 swap : (e f : Event) (S T U : TaggedPark) → Apart e f → Step e S T → Step f T U → (T′ : TaggedPark) × Step f S T′ × Step e T′ U
-swap (sending a b c m) (sending x y d n) S T U ne s t =
-    let q : T .stock x ≡ S .stock x = ap (λ (Y : TaggedPark). Y .stock x) (s .1)
-    ∙ on-false (eqb x a) _ _ (ne-eqb x a (ne-sym a x ne)) in
-    let q′ : (handedT x y d n S) .stock a ≡ S .stock a = on-false (eqb a x) _ _ (ne-eqb a x ne) in (
-      handedT x y d n S,
+swap (acting x m) (acting y n) S T U ne s t =
+    let q : T .stock (y .zone) ≡ S .stock (y .zone) = ap (λ (Y : TaggedPark). Y .stock (y .zone)) (s .1)
+    ∙ on-false (eqb (y .zone) (x .zone)) _ _ (ne-eqb (y .zone) (x .zone) (ne-sym (x .zone) (y .zone) ne)) in
+    let q′ : (actedT y n S) .stock (x .zone) ≡ S .stock (x .zone)
+    = on-false (eqb (x .zone) (y .zone)) _ _ (ne-eqb (x .zone) (y .zone) ne) in (
+      actedT y n S,
       (rw q at (t .0), refl),
-      (rw q′ (s .0), t .1 ∙ ap (handedT x y d n) (s .1) ∙ handed-handed a b c m x y d n S ne),
+      (rw q′ (s .0), t .1 ∙ ap (actedT y n) (s .1) ∙ acted-acted x m y n S ne),
     )
-swap (sending a b c m) (receiving x y d n) S T U ne s t =
-    let q : on (eqb x a && eqb y b) _ (S .channel x y) ≡ t .0 ∷ t .1 = sym (ap (λ (Y : TaggedPark). Y .channel x y) (s .1))
-    ∙ t .2 in
-    let r = first-message (eqb x a && eqb y b) (S .channel x y) _ (t .0) (t .1) (λ h. ne .2 (sym (both-true x a y b h .0)))
+swap (acting x m) (receiving a b c n) S T U ne s t =
+    let p = eqb a (x .zone) && x .goes b in
+    let q : on p _ (S .channel a b) ≡ t .0 ∷ t .1 = sym (ap (λ (Y : TaggedPark). Y .channel a b) (s .1)) ∙ t .2 in
+    let r = first-message p (S .channel a b) _ (t .0) (t .1) (λ h. ne .2 (sym (eqb-true a (x .zone) (and-left _ (x .goes b) h))))
     (t .3 (ne .1)) q in
-    let q′ : (takenT x y d S) .stock a ≡ S .stock a = on-false (eqb a y) _ _ (ne-eqb a y (ne .0)) in (
-      takenT x y d S,
+    let q′ : (takenT a b c S) .stock (x .zone) ≡ S .stock (x .zone) = on-false (eqb (x .zone) b) _ _ (ne-eqb (x .zone) b (ne .0)) in (
+      takenT a b c S,
       (t .0, r .0, r .1, t .3, refl, t .5),
-      (rw q′ (s .0), t .4 ∙ ap (takenT x y d) (s .1) ∙ taken-handed a b c m x y d S (t .0) (r .0) (ne .0) (r .1)),
+      (rw q′ (s .0), t .4 ∙ ap (takenT a b c) (s .1) ∙ taken-acted x m a b c S (t .0) (r .0) (ne .0) (r .1)),
     )
-swap (receiving a b c m) (sending x y d n) S T U ne s t =
-    let q : T .stock x ≡ S .stock x = ap (λ (Y : TaggedPark). Y .stock x) (s .4)
-    ∙ on-false (eqb x b) _ _ (ne-eqb x b (ne-sym b x ne)) in (
-      handedT x y d n S,
+swap (receiving a b c m) (acting y n) S T U ne s t =
+    let p = eqb a (y .zone) && y .goes b in
+    let q : T .stock (y .zone) ≡ S .stock (y .zone) = ap (λ (Y : TaggedPark). Y .stock (y .zone)) (s .4)
+    ∙ on-false (eqb (y .zone) b) _ _ (ne-eqb (y .zone) b (ne-sym b (y .zone) ne)) in (
+      actedT y n S,
       (rw q at (t .0), refl),
       (
         s .0,
-        on (eqb a x && eqb b y) (join (tagged d n)) (s .1),
-        ap (on (eqb a x && eqb b y) _) (s .2) ∙ join-cons (eqb a x && eqb b y) _ (s .0) (s .1),
+        on p (join (tagged (y .cars) n)) (s .1),
+        ap (on p _) (s .2) ∙ join-cons p _ (s .0) (s .1),
         s .3,
-        t .1 ∙ ap (handedT x y d n) (s .4) ∙ sym (taken-handed x y d n a b c S (s .0) (s .1) (ne-sym b x ne) (s .2)),
+        t .1 ∙ ap (actedT y n) (s .4) ∙ sym (taken-acted y n a b c S (s .0) (s .1) (ne-sym b (y .zone) ne) (s .2)),
         s .5,
       ),
     )

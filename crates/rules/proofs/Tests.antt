@@ -64,13 +64,13 @@ apart a b ne k = go (eqb k a) refl (eqb k b) refl
     go true e false f = refl
     go false e q f = refl
 
--- No channel is both that from a to b and that from x to y: the senders differ, or the receivers do.
-pub apart-senders : (a b x y : ℕ) → a ≢ x → (i j : ℕ) → (eqb i a && eqb j b) && (eqb i x && eqb j y) ≡ false
-apart-senders a b x y ne i j = go (eqb i a) (eqb i x) (apart a x ne i)
+-- No channel is both one from a and one from x, or both that from a to b and that from x to y: the senders differ, or the receivers do.
+pub apart-senders : (a x : ℕ) → a ≢ x → (i : ℕ) (u v : Bool) → (eqb i a && u) && (eqb i x && v) ≡ false
+apart-senders a x ne i u v = go (eqb i a) (eqb i x) (apart a x ne i)
   where
-    go : (p q : Bool) → p && q ≡ false → (p && eqb j b) && (q && eqb j y) ≡ false
+    go : (p q : Bool) → p && q ≡ false → (p && u) && (q && v) ≡ false
     go true true e = cc
-    go true false e = and-false (eqb j b)
+    go true false e = and-false u
     go false q e = refl
 
 pub apart-receivers : (a b x y : ℕ) → b ≢ y → (i j : ℕ) → (eqb i a && eqb j b) && (eqb i x && eqb j y) ≡ false

@@ -7,21 +7,21 @@ use Prim.Native.Nat.{ℕ, suc}
 use lib.Dec.{eqb}
 use lib.ListN.{length, drop}
 use lib.Seq.{drop-at, append-snoc}
-use borrow.Author.Tests.{le-leb}
 use Rattle.rules.specs.Change.{on, join, cons-if}
-use Rattle.rules.specs.Park.{Park, Move, hand, take, handed, taken, handIf, takeIf, step, replay, owner, hands, takes}
+use Rattle.rules.specs.Park.{Park, Move, take, taken, takeIf, step, replay, owner, hands, takes}
 use Rattle.rules.specs.Cut.{channelOf}
 use Rattle.rules.proofs.Tests.{both-true}
 use Rattle.rules.proofs.Guarded.{on-map}
 use Rattle.rules.proofs.Lists.{map-join, map-tail}
-use Rattle.rules.proofs.Tagged.{Tagged, Event, sending, receiving, zoneOf, TaggedPark, handedT, takenT, Step, Steps}
+use Rattle.rules.proofs.Acts.{Act}
+use Rattle.rules.proofs.Tagged.{Tagged, Event, acting, receiving, zoneOf, TaggedPark, actedT, takenT, Step, Steps}
 
 abbrev pub untag : Event → Move
-untag (sending a b c m) = hand a b c
+untag (acting x m) = x .move
 untag (receiving a b c m) = take a b
 
 pub owner-untag : (e : Event) → owner (untag e) ≡ zoneOf e
-owner-untag (sending a b c m) = refl
+owner-untag (acting x m) = x .owned
 owner-untag (receiving a b c m) = refl
 
 abbrev pub carsOf : Tagged → ℕ
@@ -33,18 +33,17 @@ plain S = record { stock = S .stock; channel = λ i j. map carsOf (S .channel i 
 pub park≡ : (p q : Park) → ((k : ℕ) → p .stock k ≡ q .stock k) → ((i j : ℕ) → p .channel i j ≡ q .channel i j) → p ≡ q
 park≡ p q e f = λ i. record { stock = λ k. e k i; channel = λ x y. f x y i }
 
-plain-handed : (a b c : ℕ) (m : Bool) (S : TaggedPark) → plain (handedT a b c m S) ≡ handed a b c (plain S)
-plain-handed a b c m S = park≡ _ _ (λ k. refl)
-    (λ i j. on-map (map carsOf) (eqb i a && eqb j b) _ _ (S .channel i j) (map-join carsOf (S .channel i j) _))
+acted-channel : (x : Act) (m : Bool) (S : TaggedPark) (i j : ℕ)
+    → (plain (actedT x m S)) .channel i j ≡ on (eqb i (x .zone) && x .goes j) (join (x .cars)) ((plain S) .channel i j)
+acted-channel x m S i j = on-map (map carsOf) (eqb i (x .zone) && x .goes j) _ _ (S .channel i j) (map-join carsOf (S .channel i j) _)
 
 plain-taken : (a b c : ℕ) (S : TaggedPark) → plain (takenT a b c S) ≡ taken a b c (plain S)
 plain-taken a b c S = park≡ _ _ (λ k. refl)
     (λ i j. on-map (map carsOf) (eqb i a && eqb j b) _ _ (S .channel i j) (map-tail carsOf (S .channel i j)))
 
 plain-step : (e : Event) (S T : TaggedPark) → Step e S T → step (untag e) (plain S) ≡ some (plain T)
-plain-step (sending a b c m) S T s =
-    ap (λ (t : Bool). handIf t a b c (plain S)) (le-leb c (S .stock a) (s .0))
-    ∙ ap some (sym (ap plain (s .1) ∙ plain-handed a b c m S))
+plain-step (acting x m) S T s =
+    x .stepped (plain S) (s .0) ∙ ap some (sym (ap plain (s .1) ∙ park≡ _ _ (λ k. refl) (acted-channel x m S)))
 plain-step (receiving a b c m) S T s =
     ap (λ (l : List ℕ). takeIf l a b (plain S)) (ap (map carsOf) (s .2))
     ∙ ap (λ (k : ℕ). some (taken a b k (plain S))) (s .5) ∙ ap some (sym (ap plain (s .4) ∙ plain-taken a b c S))
@@ -74,11 +73,15 @@ left : (i j : ℕ) (es : List Event) (S T : TaggedPark) → Steps es S T
     → Left i j (map untag es) (map carsOf (S .channel i j)) (map carsOf (T .channel i j))
 unfolding Left
 left i j [] S T s = ([], refl, append-nil _ ∙ ap (λ (Y : TaggedPark). map carsOf (Y .channel i j)) s)
-left i j (sending a b c m ∷ es) S T s =
+left i j (acting x m ∷ es) S T s =
+    let ms = map untag es in
     let r = left i j es (s .0) T (s .2) in
-    let w : map carsOf (s .0 .channel i j) ≡ on (eqb i a && eqb j b) (join c) (map carsOf (S .channel i j))
-    = ap (λ (Y : Park). Y .channel i j) (ap plain (s .1 .1) ∙ plain-handed a b c m S) in
-    (r .0, r .1, sym (join-append (eqb i a && eqb j b) _ _ c) ∙ sym (ap (λ (l : List ℕ). l ++ hands i j (map untag es)) w) ∙ r .2)
+    let w = ap (λ (Y : TaggedPark). map carsOf (Y .channel i j)) (s .1 .1) ∙ acted-channel x m S i j in (
+      r .0,
+      r .1 ∙ sym (x .none-taken i j ms),
+      ap (λ (l : List ℕ). map carsOf (S .channel i j) ++ l) (x .handed-over i j ms)
+          ∙ sym (join-append (eqb i (x .zone) && x .goes j) _ _ (x .cars)) ∙ sym (ap (λ (l : List ℕ). l ++ hands i j ms) w) ∙ r .2,
+    )
 left i j (receiving a b c m ∷ es) S T s =
     let u = s .1 in
     left-take i j a b (map untag es) _ _ _ (eqb i a && eqb j b) refl
