@@ -1,6 +1,6 @@
 -- The own events of a zone that are no receipts, stated once for all of them. A further kind of such events is a further `Act`.
-use mathlib.Core.Path.{_≡_, refl, ap}
-use mathlib.Core.Bool.{Bool, _&&_}
+use mathlib.Core.Path.{_≡_, refl, sym, ap}
+use mathlib.Core.Bool.{Bool, true, _&&_}
 use mathlib.Core.List.{List, _∷_}
 use mathlib.Core.Option.{some}
 use Prim.Native.Nat.{ℕ, _-_, _≤_}
@@ -8,24 +8,26 @@ use lib.Dec.{eqb}
 use borrow.Author.Tests.{le-leb}
 use Rattle.rules.specs.Change.{on, join, cons-if}
 use Rattle.rules.specs.Park.{Park, Move, hand, handIf, step, owner, hands, takes}
+use Rattle.rules.proofs.Tests.{both-true}
 
--- What a zone does by itself: it needs so many cars in its stock, changes the stock in any way, and puts a message of so many cars on its
--- channels to the zones of a test, mostly one or none. The move is what the park is fed of it.
+-- What a zone does by itself: it needs so many cars in its stock, changes the stock in any way, and puts a message of so many cars on those
+-- of its channels that a test names, none or one. The move is what the park is fed of it.
 pub record Act : Type 0 where
   pub zone : ℕ
   pub needs : ℕ
   pub change : ℕ → ℕ
-  pub goes : ℕ → Bool
+  pub goes : ℕ → ℕ → Bool
   pub cars : ℕ
   pub move : Move
-  -- The move is the zone's own and does just this to the park.
+  -- The channels are the zone's, and so is the move, which does just this to the park.
+  pub from : (i j : ℕ) → goes i j ≡ true → zone ≡ i
   pub owned : owner move ≡ zone
   pub stepped : (p : Park) → needs ≤ p .stock zone
       → step move p ≡ some (record {
         stock = λ k. on (eqb k zone) change (p .stock k);
-        channel = λ i j. on (eqb i zone && goes j) (join cars) (p .channel i j);
+        channel = λ i j. on (goes i j) (join cars) (p .channel i j);
       })
-  pub handed-over : (i j : ℕ) (ms : List Move) → hands i j (move ∷ ms) ≡ cons-if (eqb i zone && goes j) cars (hands i j ms)
+  pub handed-over : (i j : ℕ) (ms : List Move) → hands i j (move ∷ ms) ≡ cons-if (goes i j) cars (hands i j ms)
   pub none-taken : (i j : ℕ) (ms : List Move) → takes i j (move ∷ ms) ≡ takes i j ms
 
 -- The hand-over of c cars from a to b.
@@ -34,9 +36,10 @@ handing a b c = record {
   zone = a;
   needs = c;
   change = λ n. n - c;
-  goes = λ j. eqb j b;
+  goes = λ i j. eqb i a && eqb j b;
   cars = c;
   move = hand a b c;
+  from = λ i j e. sym (both-true i a j b e .0);
   owned = refl;
   stepped = λ p le. ap (λ (t : Bool). handIf t a b c p) (le-leb c (p .stock a) le);
   handed-over = λ i j ms. refl;

@@ -102,7 +102,7 @@ messages-drop false l set r e = refl
 park-own : (x : Act) (h : History) → parkOf (ownH x h) ≡ actedT x (hasCheckpoint (h .now .zone (x .zone) .checkpoint)) (parkOf h)
 park-own x h = tagged≡ _ _
     (λ k. on-map (λ (z : Local). z .stock) (eqb k (x .zone)) (acted x) (x .change) (h .now .zone k) refl)
-    (λ i j. on-map messages (eqb i (x .zone) && x .goes j) _ _ (h .now .channel i j)
+    (λ i j. on-map messages (x .goes i j) _ _ (h .now .channel i j)
     (messages-join (h .now .channel i j) (x .cars) (hasCheckpoint (h .now .zone (x .zone) .checkpoint))))
 
 park-receive : (a b c : ℕ) (flag : Bool) (l : List Item) (h : History) → h .now .channel a b ≡ message c flag ∷ l

@@ -53,7 +53,7 @@ acted x z = record { stock = x .change (z .stock); deps = z .deps; events = z .e
 abbrev pub ownS : Act → Site → Site
 ownS x s = record {
   zone = λ k. on (eqb k (x .zone)) (acted x) (s .zone k);
-  channel = λ i j. on (eqb i (x .zone) && x .goes j) (join (message (x .cars) (hasCheckpoint (s .zone (x .zone) .checkpoint))))
+  channel = λ i j. on (x .goes i j) (join (message (x .cars) (hasCheckpoint (s .zone (x .zone) .checkpoint))))
       (s .channel i j);
 }
 

@@ -54,7 +54,7 @@ fresh-kept = record {
   at-own = λ x h _ f. record {
     no-checkpoint = λ e z. on-keeps (λ (k : Local). hasCheckpoint (k .checkpoint) ≡ false) (eqb z (x .zone)) (acted x) (h .now .zone z)
         (λ q. q) (f .no-checkpoint e z);
-    calm = λ e i j. on-keeps (All Calm) (eqb i (x .zone) && x .goes j)
+    calm = λ e i j. on-keeps (All Calm) (x .goes i j)
         (join (message (x .cars) (hasCheckpoint (h .now .zone (x .zone) .checkpoint))))
         (h .now .channel i j)
         (λ w. all-join Calm (h .now .channel i j) _ w (f .no-checkpoint e (x .zone))) (f .calm e i j);

@@ -224,9 +224,9 @@ own-flow : (x : Act) (h : History) → Flow (Due h) h → Flow (Due (ownH x h)) 
 own-flow x h = still-flow h (ownH x h)
     (record { permanents = λ k e. same k ∙ e; dependencies = λ k i e. depends k i ∙ e })
     (λ k e. sym (same k) ∙ e) (λ k i _ e. sym (depends k i) ∙ e) refl
-    (λ k i w. on-keeps (λ (l : List Item). waits l ≡ true) (eqb i (x .zone) && x .goes k) (join y) (h .now .channel i k)
+    (λ k i w. on-keeps (λ (l : List Item). waits l ≡ true) (x .goes i k) (join y) (h .now .channel i k)
     (waits-join (h .now .channel i k) y) w)
-    (λ i j q. on-keeps (All _) (eqb i (x .zone) && x .goes j) (join y) (h .now .channel i j)
+    (λ i j q. on-keeps (All _) (x .goes i j) (join y) (h .now .channel i j)
     (λ q′. all-join _ (h .now .channel i j) y q′ tt) q)
   where
     y : Item

@@ -6,9 +6,9 @@ use mathlib.Core.Logic.{_≢_}
 use mathlib.Core.List.{List, [], _∷_, tail}
 use Prim.Native.Nat.{ℕ, _+_, _≤_}
 use lib.Dec.{eqb}
-use borrow.Author.Tests.{eqb-true, ne-eqb}
+use borrow.Author.Tests.{ne-eqb}
 use Rattle.rules.specs.Change.{on, join}
-use Rattle.rules.proofs.Tests.{and-left, apart, apart-senders, apart-receivers, both-true, other-receiver}
+use Rattle.rules.proofs.Tests.{not-both, apart, apart-receivers, both-true, other-receiver}
 use Rattle.rules.proofs.Guarded.{on-apart, on-swap-at, on-false}
 use Rattle.rules.proofs.Lists.{All}
 use Rattle.rules.proofs.Acts.{Act}
@@ -41,7 +41,7 @@ tagged c m = record { cars = c; post = m }
 abbrev pub actedT : Act → Bool → TaggedPark → TaggedPark
 actedT x m S = record {
   stock = λ k. on (eqb k (x .zone)) (x .change) (S .stock k);
-  channel = λ i j. on (eqb i (x .zone) && x .goes j) (join (tagged (x .cars) m)) (S .channel i j);
+  channel = λ i j. on (x .goes i j) (join (tagged (x .cars) m)) (S .channel i j);
 }
 
 abbrev pub takenT : ℕ → ℕ → ℕ → TaggedPark → TaggedPark
@@ -80,8 +80,8 @@ acted-acted : (x : Act) (m : Bool) (y : Act) (n : Bool) (S : TaggedPark) → x .
     → actedT y n (actedT x m S) ≡ actedT x m (actedT y n S)
 acted-acted x m y n S ne = tagged≡ _ _
     (λ k. on-apart (eqb k (x .zone)) (eqb k (y .zone)) _ _ (S .stock k) (apart (x .zone) (y .zone) ne k))
-    (λ i j. on-apart (eqb i (x .zone) && x .goes j) (eqb i (y .zone) && y .goes j) _ _ (S .channel i j)
-    (apart-senders (x .zone) (y .zone) ne i (x .goes j) (y .goes j)))
+    (λ i j. on-apart (x .goes i j) (y .goes i j) _ _ (S .channel i j)
+    (not-both (x .goes i j) (y .goes i j) (λ e f. ne (x .from i j e ∙ sym (y .from i j f)))))
 
 taken-taken : (a b c x y d : ℕ) (S : TaggedPark) → b ≢ y → takenT x y d (takenT a b c S) ≡ takenT a b c (takenT x y d S)
 taken-taken a b c x y d S ne = tagged≡ _ _
@@ -92,7 +92,7 @@ taken-acted : (x : Act) (m : Bool) (a b c : ℕ) (S : TaggedPark) (l : Tagged) (
     → takenT a b c (actedT x m S) ≡ actedT x m (takenT a b c S)
 taken-acted x m a b c S l r ne e = tagged≡ _ _
     (λ k. on-apart (eqb k (x .zone)) (eqb k b) _ _ (S .stock k) (apart (x .zone) b ne k))
-    (λ i j. on-swap-at (eqb i (x .zone) && x .goes j) (eqb i a && eqb j b) _ _ (S .channel i j)
+    (λ i j. on-swap-at (x .goes i j) (eqb i a && eqb j b) _ _ (S .channel i j)
     (λ t. let h = both-true i a j b t in tail-join (S .channel i j) _ l r (cc)))
 
 -- The first message of a channel to which one sent after was joined, where the message taken was sent before.
@@ -118,25 +118,22 @@ swap (acting x m) (acting y n) S T U ne s t =
       (rw q′ (s .0), t .1 ∙ ap (actedT y n) (s .1) ∙ acted-acted x m y n S ne),
     )
 swap (acting x m) (receiving a b c n) S T U ne s t =
-    let p = eqb a (x .zone) && x .goes b in
-    let q : on p _ (S .channel a b) ≡ t .0 ∷ t .1 = sym (ap (λ (Y : TaggedPark). Y .channel a b) (s .1)) ∙ t .2 in
-    let r = first-message p (S .channel a b) _ (t .0) (t .1) (λ h. ne .2 (sym (eqb-true a (x .zone) (and-left _ (x .goes b) h))))
-    (t .3 (ne .1)) q in
+    let q : on (x .goes a b) _ (S .channel a b) ≡ t .0 ∷ t .1 = sym (ap (λ (Y : TaggedPark). Y .channel a b) (s .1)) ∙ t .2 in
+    let r = first-message (x .goes a b) (S .channel a b) _ (t .0) (t .1) (λ h. ne .2 (x .from a b h)) (t .3 (ne .1)) q in
     let q′ : (takenT a b c S) .stock (x .zone) ≡ S .stock (x .zone) = on-false (eqb (x .zone) b) _ _ (ne-eqb (x .zone) b (ne .0)) in (
       takenT a b c S,
       (t .0, r .0, r .1, t .3, refl, t .5),
       (rw q′ (s .0), t .4 ∙ ap (takenT a b c) (s .1) ∙ taken-acted x m a b c S (t .0) (r .0) (ne .0) (r .1)),
     )
 swap (receiving a b c m) (acting y n) S T U ne s t =
-    let p = eqb a (y .zone) && y .goes b in
     let q : T .stock (y .zone) ≡ S .stock (y .zone) = ap (λ (Y : TaggedPark). Y .stock (y .zone)) (s .4)
     ∙ on-false (eqb (y .zone) b) _ _ (ne-eqb (y .zone) b (ne-sym b (y .zone) ne)) in (
       actedT y n S,
       (rw q at (t .0), refl),
       (
         s .0,
-        on p (join (tagged (y .cars) n)) (s .1),
-        ap (on p _) (s .2) ∙ join-cons p _ (s .0) (s .1),
+        on (y .goes a b) (join (tagged (y .cars) n)) (s .1),
+        ap (on (y .goes a b) _) (s .2) ∙ join-cons (y .goes a b) _ (s .0) (s .1),
         s .3,
         t .1 ∙ ap (actedT y n) (s .4) ∙ sym (taken-acted y n a b c S (s .0) (s .1) (ne-sym b (y .zone) ne) (s .2)),
         s .5,

@@ -55,31 +55,20 @@ both-true i x j y e = (eqb-true i x (and-left (eqb i x) (eqb j y) e), eqb-true j
 pub other-receiver : (a b i j : ℕ) → j ≢ b → eqb i a && eqb j b ≡ false
 other-receiver a b i j ne = rw (ne-eqb j b ne) (and-false (eqb i a))
 
+-- Two tests that are not both passed.
+pub not-both : (p q : Bool) → (p ≡ true → q ≡ true → ⊥) → p && q ≡ false
+not-both true true ne = absurd (ne refl refl)
+not-both true false ne = refl
+not-both false q ne = refl
+
 -- No number is both a and b.
 pub apart : (a b : ℕ) → a ≢ b → (k : ℕ) → eqb k a && eqb k b ≡ false
-apart a b ne k = go (eqb k a) refl (eqb k b) refl
-  where
-    go : (p : Bool) → eqb k a ≡ p → (q : Bool) → eqb k b ≡ q → p && q ≡ false
-    go true e true f = absurd (ne (sym (eqb-true k a e) ∙ eqb-true k b f))
-    go true e false f = refl
-    go false e q f = refl
+apart a b ne k = not-both (eqb k a) (eqb k b) (λ e f. ne (sym (eqb-true k a e) ∙ eqb-true k b f))
 
--- No channel is both one from a and one from x, or both that from a to b and that from x to y: the senders differ, or the receivers do.
-pub apart-senders : (a x : ℕ) → a ≢ x → (i : ℕ) (u v : Bool) → (eqb i a && u) && (eqb i x && v) ≡ false
-apart-senders a x ne i u v = go (eqb i a) (eqb i x) (apart a x ne i)
-  where
-    go : (p q : Bool) → p && q ≡ false → (p && u) && (q && v) ≡ false
-    go true true e = cc
-    go true false e = and-false u
-    go false q e = refl
-
+-- No channel is both that from a to b and that from x to y, by their receivers.
 pub apart-receivers : (a b x y : ℕ) → b ≢ y → (i j : ℕ) → (eqb i a && eqb j b) && (eqb i x && eqb j y) ≡ false
-apart-receivers a b x y ne i j = go (eqb i a) (eqb i x) (eqb j b) (eqb j y) (apart b y ne j)
-  where
-    go : (u v p q : Bool) → p && q ≡ false → (u && p) && (v && q) ≡ false
-    go false v p q e = refl
-    go true false p q e = and-false p
-    go true true p q e = e
+apart-receivers a b x y ne i j = not-both (eqb i a && eqb j b) (eqb i x && eqb j y)
+    (λ e f. ne (sym (both-true i a j b e .1) ∙ both-true i x j y f .1))
 
 -- What a call's negated test says of its callee's meaning.
 pub no : {t s : Bool} → t ≡ s → not t ≡ true → s ≡ false

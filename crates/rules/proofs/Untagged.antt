@@ -34,8 +34,8 @@ pub park≡ : (p q : Park) → ((k : ℕ) → p .stock k ≡ q .stock k) → ((i
 park≡ p q e f = λ i. record { stock = λ k. e k i; channel = λ x y. f x y i }
 
 acted-channel : (x : Act) (m : Bool) (S : TaggedPark) (i j : ℕ)
-    → (plain (actedT x m S)) .channel i j ≡ on (eqb i (x .zone) && x .goes j) (join (x .cars)) ((plain S) .channel i j)
-acted-channel x m S i j = on-map (map carsOf) (eqb i (x .zone) && x .goes j) _ _ (S .channel i j) (map-join carsOf (S .channel i j) _)
+    → (plain (actedT x m S)) .channel i j ≡ on (x .goes i j) (join (x .cars)) ((plain S) .channel i j)
+acted-channel x m S i j = on-map (map carsOf) (x .goes i j) _ _ (S .channel i j) (map-join carsOf (S .channel i j) _)
 
 plain-taken : (a b c : ℕ) (S : TaggedPark) → plain (takenT a b c S) ≡ taken a b c (plain S)
 plain-taken a b c S = park≡ _ _ (λ k. refl)
@@ -80,7 +80,7 @@ left i j (acting x m ∷ es) S T s =
       r .0,
       r .1 ∙ sym (x .none-taken i j ms),
       ap (λ (l : List ℕ). map carsOf (S .channel i j) ++ l) (x .handed-over i j ms)
-          ∙ sym (join-append (eqb i (x .zone) && x .goes j) _ _ (x .cars)) ∙ sym (ap (λ (l : List ℕ). l ++ hands i j ms) w) ∙ r .2,
+          ∙ sym (join-append (x .goes i j) _ _ (x .cars)) ∙ sym (ap (λ (l : List ℕ). l ++ hands i j ms) w) ∙ r .2,
     )
 left i j (receiving a b c m ∷ es) S T s =
     let u = s .1 in
