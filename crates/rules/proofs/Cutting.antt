@@ -24,7 +24,7 @@ use Rattle.rules.proofs.Acts.{Act}
 use Rattle.rules.proofs.Tagged.{Tagged, Event, acting, receiving, zoneOf, isPost, TaggedPark, tagged, actedT, takenT, Step, Apart, tagged≡, Steps, steps-join, forward}
 use Rattle.rules.proofs.Untagged.{carsOf, plain, park≡}
 use Rattle.rules.proofs.Checkpoints.{has-depsAfter}
-use Rattle.rules.proofs.History.{History, openH, NoCheckpoint, Depends, actingOf, receivingOf, acted, ownH, receiveH, popH, turnH, beginH, at-channel}
+use Rattle.rules.proofs.History.{History, openH, NoCheckpoint, Depends, actingOf, receivingOf, acted, ownH, own-deps, receiveH, popH, turnH, beginH, at-channel}
 use Rattle.rules.proofs.Kept.{Kept}
 use Rattle.rules.proofs.Dependencies.{PreOnly, pre-kept}
 
@@ -269,7 +269,7 @@ own-cuts v x h le pre cuts F closed = go (inFirst F e) refl
     t = ownH x h
 
     r : Halves v F h
-    r = cuts F (λ j i f q. closed j i f (on-same (λ (z : Local). has (z .deps) i) (eqb j a) (acted x) (h .now .zone j) refl ∙ q))
+    r = cuts F (λ j i f q. closed j i f (ap (λ (d : ℕ). has d i) (own-deps x h j) ∙ q))
 
     step : Step e (parkOf h) (parkOf t)
     step = (le, park-own x h)

@@ -18,7 +18,7 @@ use Rattle.rules.proofs.Lists.{All, all-join, all-map}
 use Rattle.rules.proofs.Acts.{Act}
 use Rattle.rules.proofs.Tagged.{Event, acting, receiving, zoneOf, isPost}
 use Rattle.rules.proofs.Checkpoints.{has-checkpoint-after, has-checkpoint-made, has-depsAfter}
-use Rattle.rules.proofs.History.{History, openH, NoCheckpoint, acted, ownH, receiveH, popH, turnH, beginH}
+use Rattle.rules.proofs.History.{History, openH, NoCheckpoint, ownH, own-checkpoint, own-deps, receiveH, popH, turnH, beginH}
 use Rattle.rules.proofs.Kept.{Kept}
 
 -- Every event of a zone that has no checkpoint now counts as before its checkpoint.
@@ -27,7 +27,7 @@ PreOnly h = All (λ e. NoCheckpoint h (zoneOf e) → isPost e ≡ false) (h .log
 
 -- A zone without a checkpoint after a step was so before it.
 no-checkpoint-own : (x : Act) (h : History) (k : ℕ) → NoCheckpoint (ownH x h) k → NoCheckpoint h k
-no-checkpoint-own x h k = on-back (λ (z : Local). hasCheckpoint (z .checkpoint) ≡ false) (eqb k (x .zone)) (acted x) (h .now .zone k) (λ e. e)
+no-checkpoint-own x h k e = sym (ap hasCheckpoint (own-checkpoint x h k)) ∙ e
 
 no-checkpoint-receive : (a b c : ℕ) (flag : Bool) (h : History) (k : ℕ) → NoCheckpoint (receiveH a b c flag h) k → NoCheckpoint h k
 no-checkpoint-receive a b c flag h k = on-back (λ (z : Local). hasCheckpoint (z .checkpoint) ≡ false) (eqb k b) (received a c flag)
@@ -86,7 +86,7 @@ receive-senders a b c flag h s j i = rw (sender-join j i (h .log) _) (go (eqb j 
 
 pub senders-kept : Kept Senders
 senders-kept = record {
-  at-own = λ x h _ s j i. on-same (λ (z : Local). has (z .deps) i) (eqb j (x .zone)) (acted x) (h .now .zone j) refl ∙ s j i
+  at-own = λ x h _ s j i. ap (λ (d : ℕ). has d i) (own-deps x h j) ∙ s j i
       ∙ ap (λ t. eqb i j || t) (sym (sender-join j i (h .log) _ ∙ or-false _));
   at-receive = λ a b c flag l h _ s. receive-senders a b c flag h s;
   at-drop = λ a b set l h _ _ s. s;

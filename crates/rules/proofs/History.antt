@@ -15,6 +15,7 @@ use Rattle.rules.specs.Park.{Move}
 use Rattle.rules.specs.Cut.{Allowed, run, taking, moveOf, moves}
 use Rattle.rules.specs.declared.Local.{Local}
 use Rattle.rules.proofs.Tests.{both-true}
+use Rattle.rules.proofs.Guarded.{on-same}
 use Rattle.rules.proofs.Lists.{map-join}
 use Rattle.rules.proofs.Acts.{Act, handing}
 use Rattle.rules.proofs.Tagged.{Event, acting, receiving}
@@ -104,6 +105,13 @@ history (c ∷ cs) h = history cs (stepH c h)
 
 abbrev pub movesOf : History → List Move
 movesOf h = map untag (h .log)
+
+-- An act keeps every zone's checkpoint and dependency set.
+pub own-checkpoint : (x : Act) (h : History) (k : ℕ) → (ownH x h) .now .zone k .checkpoint ≡ h .now .zone k .checkpoint
+own-checkpoint x h k = on-same (λ (z : Local). z .checkpoint) (eqb k (x .zone)) (acted x) (h .now .zone k) refl
+
+pub own-deps : (x : Act) (h : History) (k : ℕ) → (ownH x h) .now .zone k .deps ≡ h .now .zone k .deps
+own-deps x h k = on-same (λ (z : Local). z .deps) (eqb k (x .zone)) (acted x) (h .now .zone k) refl
 
 -- A hand-over is an act.
 pub own-send : (a b c : ℕ) (h : History) → stepH (send a b c) h ≡ ownH (handing a b c) h

@@ -19,7 +19,7 @@ use Rattle.rules.proofs.Guarded.{on-keeps, on-true}
 use Rattle.rules.proofs.Lists.{All, all-join, all-tail}
 use Rattle.rules.proofs.Checkpoints.{has-checkpoint-after, permanent-after, permanent-made, started-requested}
 use Rattle.rules.proofs.Acts.{Act, handing}
-use Rattle.rules.proofs.History.{History, openH, NoCheckpoint, IsPermanent, acted, ownH, own-send, receiveH, popH, turnH, beginH, startH, logTaken, stepH, history}
+use Rattle.rules.proofs.History.{History, openH, NoCheckpoint, IsPermanent, ownH, own-checkpoint, own-send, receiveH, popH, turnH, beginH, startH, logTaken, stepH, history}
 
 -- R leads from each history to the next, whatever the step.
 pub record Does {κ} (R : History → History → Type κ) : Type κ where
@@ -52,14 +52,10 @@ some≢none e = let z : _≡_ {A = Bool} true false = cc in true≢false z
 fresh-kept : Kept Fresh
 fresh-kept = record {
   at-own = λ x h _ f. record {
-    no-checkpoint = λ e z. on-keeps (λ (k : Local). hasCheckpoint (k .checkpoint) ≡ false) (eqb z (x .zone)) (acted x) (h .now .zone z)
-        (λ q. q) (f .no-checkpoint e z);
-    calm = λ e i j. on-keeps (All Calm) (x .goes i j)
-        (join (message (x .cars) (hasCheckpoint (h .now .zone (x .zone) .checkpoint))))
-        (h .now .channel i j)
+    no-checkpoint = λ e z. ap hasCheckpoint (own-checkpoint x h z) ∙ f .no-checkpoint e z;
+    calm = λ e i j. on-keeps (All Calm) (x .goes i j) (join _) (h .now .channel i j)
         (λ w. all-join Calm (h .now .channel i j) _ w (f .no-checkpoint e (x .zone))) (f .calm e i j);
-    begun = λ a e. on-keeps (λ (k : Local). isPermanent (k .checkpoint) ≡ true) (eqb a (x .zone)) (acted x) (h .now .zone a) (λ q. q)
-        (f .begun a e);
+    begun = λ a e. ap isPermanent (own-checkpoint x h a) ∙ f .begun a e;
   };
   at-receive = λ a b c flag l h at f. record {
     no-checkpoint = λ e z. on-keeps (λ (k : Local). hasCheckpoint (k .checkpoint) ≡ false) (eqb z b) (received a c flag) (h .now .zone z)

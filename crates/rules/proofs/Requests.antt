@@ -22,7 +22,7 @@ use Rattle.rules.proofs.Guarded.{on-keeps, on-same, on-true, on-false}
 use Rattle.rules.proofs.Lists.{All, all-join, all-tail, all-map}
 use Rattle.rules.proofs.Checkpoints.{permanent-after, permanent-made, has-depsAfter, has-targets, has-carried}
 use Rattle.rules.proofs.Acts.{Act}
-use Rattle.rules.proofs.History.{History, openH, IsPermanent, Depends, acted, ownH, receiveH, popH, turnH, beginH, at-channel}
+use Rattle.rules.proofs.History.{History, openH, IsPermanent, Depends, ownH, own-checkpoint, own-deps, receiveH, popH, turnH, beginH, at-channel}
 use Rattle.rules.proofs.Kept.{Kept, some≢none}
 
 -- Permanent, or a request is coming.
@@ -233,10 +233,10 @@ own-flow x h = still-flow h (ownH x h)
     y = message (x .cars) (hasCheckpoint (h .now .zone (x .zone) .checkpoint))
 
     same : (k : ℕ) → isPermanent ((ownH x h) .now .zone k .checkpoint) ≡ isPermanent (h .now .zone k .checkpoint)
-    same k = on-same (λ (z : Local). isPermanent (z .checkpoint)) (eqb k (x .zone)) (acted x) (h .now .zone k) refl
+    same k = ap isPermanent (own-checkpoint x h k)
 
     depends : (k i : ℕ) → has ((ownH x h) .now .zone k .deps) i ≡ has (h .now .zone k .deps) i
-    depends k i = on-same (λ (z : Local). has (z .deps) i) (eqb k (x .zone)) (acted x) (h .now .zone k) refl
+    depends k i = ap (λ (d : ℕ). has d i) (own-deps x h k)
 
 -- A permanent zone's dependency set stays.
 permanent-deps : (k : Checkpoint) (deps from : ℕ) (flag : Bool) → isPermanent k ≡ true → depsAfter k deps from flag ≡ deps

@@ -20,7 +20,7 @@ use Rattle.rules.specs.declared.Checkpoint.the-variants.{None, Mutable, 
 use Rattle.rules.proofs.Tests.{eqb-refl}
 use Rattle.rules.proofs.Guarded.{on-true}
 use Rattle.rules.proofs.Checkpoints.{permanent-has-checkpoint}
-use Rattle.rules.proofs.History.{History, openH, acted, popH, turnH, beginH, stepH, history, now-run, moves-open, history-append, allowed-append}
+use Rattle.rules.proofs.History.{History, openH, own-checkpoint, popH, turnH, beginH, stepH, history, now-run, moves-open, history-append, allowed-append}
 use Rattle.rules.proofs.Kept.{Does, Kept, Fresh, some≢none, fresh-open, first-start, call-does, fresh-call, calls-keep, fresh-calls}
 use Rattle.rules.proofs.Counting.{eventsAt, counts-kept, counts-open, Counts}
 
@@ -57,7 +57,7 @@ turn-onward b set h z = next-on (eqb z b) requested (h .now .zone z)
 
 onward : Does Onward
 onward = record {
-  at-own = λ x h _ z. next-on (eqb z (x .zone)) (acted x) (h .now .zone z)
+  at-own = λ x h _ z. subst (Next (h .now .zone z .checkpoint) (h .now .zone z .events)) (sym (own-checkpoint x h z))
       (next-same (h .now .zone z .checkpoint) (h .now .zone z .events));
   at-receive = λ a b c flag l h _ z. next-on (eqb z b) (received a c flag) (h .now .zone z)
       (next-after (h .now .zone z .checkpoint) (saved (h .now .zone z)) flag);
@@ -157,15 +157,17 @@ starting-initiator v cs al a s =
     ∙ calls-keep (λ t. t .initiator ≡ some a) (initiator-kept a) (s .after) (stepH (start a) h) (fresh-call (start a) h f (al₁ .0))
     (al₁ .1) refl
 
+-- A start among calls, with one more call before them.
+starting-later : (c : Call) (cs : List Call) (a : ℕ) → Starting cs a → Starting (c ∷ cs) a
+starting-later c cs a s = record { before = c ∷ s .before; after = s .after; calls = ap (λ l. c ∷ l) (s .calls) }
+
 pub initiator-starting : (cs : List Call) (h : History) → Fresh h → Allowed cs (h .now) → (a : ℕ) → h .initiator ≡ none
     → (history cs h) .initiator ≡ some a → Starting cs a
 initiator-starting [] h f al a e q = absurd (some≢none (sym q ∙ e))
 initiator-starting (send x y n ∷ cs) h f al a e q =
-    let r = initiator-starting cs (stepH (send x y n) h) (fresh-call (send x y n) h f (al .0)) (al .1) a e q in
-    record { before = send x y n ∷ r .before; after = r .after; calls = ap (λ l. send x y n ∷ l) (r .calls) }
+    starting-later _ cs a (initiator-starting cs (stepH (send x y n) h) (fresh-call (send x y n) h f (al .0)) (al .1) a e q)
 initiator-starting (receive x y ∷ cs) h f al a e q =
-    let r = initiator-starting cs (stepH (receive x y) h) (fresh-call (receive x y) h f (al .0)) (al .1) a e q in
-    record { before = receive x y ∷ r .before; after = r .after; calls = ap (λ l. receive x y ∷ l) (r .calls) }
+    starting-later _ cs a (initiator-starting cs (stepH (receive x y) h) (fresh-call (receive x y) h f (al .0)) (al .1) a e q)
 initiator-starting (start x ∷ cs) h f al a e q =
     let w : (history cs (stepH (start x) h)) .initiator ≡ some x
     = calls-keep (λ t. t .initiator ≡ some x) (initiator-kept x) cs (stepH (start x) h) (fresh-call (start x) h f (al .0))
