@@ -21,7 +21,7 @@ use Rattle.rules.proofs.Tests.{eqb-refl, or-left, or-right, or-off-left
 use Rattle.rules.proofs.Guarded.{on-keeps, on-same, on-same-at, on-map, on-map-at, on-true}
 use Rattle.rules.proofs.Lists.{All, all-map, all-keep, keep, keep-join}
 use Rattle.rules.proofs.Acts.{Act}
-use Rattle.rules.proofs.Tagged.{Tagged, Event, acting, receiving, zoneOf, isPost, TaggedPark, tagged, actedT, takenT, Step, Apart, tagged≡, Steps, steps-join, forward}
+use Rattle.rules.proofs.Tagged.{Tagged, Event, acting, receiving, zoneOf, isPost, TaggedPark, tagged, actedT, takenT, Step, stockBy, step-stock, Apart, tagged≡, Steps, steps-join, forward}
 use Rattle.rules.proofs.Untagged.{carsOf, plain, park≡}
 use Rattle.rules.proofs.Checkpoints.{has-depsAfter}
 use Rattle.rules.proofs.History.{History, openH, NoCheckpoint, Depends, actingOf, receivingOf, acted, ownH, own-deps, receiveH, popH, turnH, beginH, at-channel}
@@ -64,8 +64,11 @@ stockAt None now = now
 stockAt (Mutable s) now = s .stock
 stockAt (Permanent s) now = s .stock
 
+abbrev heldBy : Local → ℕ
+heldBy z = stockAt (z .checkpoint) (z .stock)
+
 abbrev pub held : Bool → Local → ℕ → ℕ
-held true z opening = stockAt (z .checkpoint) (z .stock)
+held true z opening = heldBy z
 held false z opening = opening
 
 pub record Halves (v : Opening) (F : ℕ → Bool) (h : History) : Type 0 where
@@ -178,55 +181,74 @@ apart-receive F h a b c m q fa f u (acting x n) k t =
     (not-own F h b f u (acting x n) k t, q, λ w. post-second (F (x .zone)) n (ap F w ∙ fa) t)
 apart-receive F h a b c m q fa f u (receiving x y d n) k t = not-own F h b f u (receiving x y d n) k t
 
--- One more event e, by which h becomes t.
-module _ (v : Opening) (F : ℕ → Bool) (h t : History) (e : Event) (step : Step e (parkOf h) (parkOf t))
-    (logged : t .log ≡ join e (h .log))
-    (r : Halves v F h) where
-  -- In the first part: it moves forward past the second part.
-  one-first : inFirst F e ≡ true → All (λ x. inSecond F x ≡ true → Apart x e) (h .log)
-      → ((m : TaggedPark) → Step e (r .middle) m → (z : ℕ) → m .stock z ≡ held (F z) (t .now .zone z) (v .stocks z)) → Halves v F t
-  one-first q apart stock =
-      let w = forward (keep (inSecond F) (h .log)) e (r .middle) (parkOf h) (parkOf t)
-      (all-keep (λ x. Apart x e) (inSecond F) (h .log) apart) (r .second) step in
-      record {
-        middle = w .0;
-        first = rw (logged, keep-join (inFirst F), q)
-            (steps-join (keep (inFirst F) (h .log)) e (openT v) (r .middle) (w .0) (r .first) (w .1));
-        second = rw (logged, keep-join (inSecond F), q, append-nil (keep (inSecond F) (h .log))) (w .2);
-        stocks = stock (w .0) (w .1);
+-- What a zone holds after an event of the first part, and after one of the second; m: whether the event comes before the checkpoint.
+held-first : (p m : Bool) (y z : Local) (f : ℕ → ℕ) (o : ℕ) → (m ≡ true → heldBy y ≡ f (heldBy z)) → p && m ≡ true
+    → held p y o ≡ f (held p z o)
+held-first true m y z f o k e = k e
+held-first false m y z f o k e = absurd (false≢true e)
+
+held-second : (p m : Bool) (y z : Local) (o : ℕ) → (m ≡ false → heldBy y ≡ heldBy z) → p && m ≡ false → held p y o ≡ held p z o
+held-second true m y z o k e = k e
+held-second false m y z o k e = refl
+
+-- One more event e, by which h becomes t and its zone changes by g.
+module _ (v : Opening) (F : ℕ → Bool) (h t : History) (e : Event) (g : Local → Local) (step : Step e (parkOf h) (parkOf t))
+    (logged : t .log ≡ join e (h .log)) (changed : (k : ℕ) → t .now .zone k ≡ on (eqb k (zoneOf e)) g (h .now .zone k))
+    (before : not (isPost e) ≡ true → heldBy (g (h .now .zone (zoneOf e))) ≡ stockBy e (heldBy (h .now .zone (zoneOf e))))
+    (after : not (isPost e) ≡ false → heldBy (g (h .now .zone (zoneOf e))) ≡ heldBy (h .now .zone (zoneOf e)))
+    (apart : inFirst F e ≡ true → All (λ x. inSecond F x ≡ true → Apart x e) (h .log)) (r : Halves v F h) where
+  abbrev heldAt : ℕ → Local → ℕ
+  heldAt z w = held (F z) w (v .stocks z)
+
+  stocks-first : inFirst F e ≡ true → (z : ℕ) → heldAt z (t .now .zone z) ≡ on (eqb z (zoneOf e)) (stockBy e) (heldAt z (h .now .zone z))
+  stocks-first q z =
+      ap (heldAt z) (changed z)
+      ∙ on-map-at (heldAt z) (eqb z (zoneOf e)) g (stockBy e) (h .now .zone z)
+      (λ w. subst (λ (k : ℕ). heldAt k (g (h .now .zone k)) ≡ stockBy e (heldAt k (h .now .zone k))) (sym (eqb-true z (zoneOf e) w))
+      (held-first (F (zoneOf e)) (not (isPost e)) _ _ (stockBy e) _ before q))
+
+  stocks-second : inFirst F e ≡ false → (z : ℕ) → heldAt z (t .now .zone z) ≡ heldAt z (h .now .zone z)
+  stocks-second q z =
+      ap (heldAt z) (changed z)
+      ∙ on-same-at (heldAt z) (eqb z (zoneOf e)) g (h .now .zone z)
+      (λ w. subst (λ (k : ℕ). heldAt k (g (h .now .zone k)) ≡ heldAt k (h .now .zone k)) (sym (eqb-true z (zoneOf e) w))
+      (held-second (F (zoneOf e)) (not (isPost e)) _ _ _ after q))
+
+  one-cut : Halves v F t
+  one-cut = go (inFirst F e) refl
+    where
+      go : (p : Bool) → inFirst F e ≡ p → Halves v F t
+      -- In the first part: it moves forward past the second part.
+      go true q =
+          let w = forward (keep (inSecond F) (h .log)) e (r .middle) (parkOf h) (parkOf t)
+          (all-keep (λ x. Apart x e) (inSecond F) (h .log) (apart q)) (r .second) step in
+          record {
+            middle = w .0;
+            first = rw (logged, keep-join (inFirst F), q)
+                (steps-join (keep (inFirst F) (h .log)) e (openT v) (r .middle) (w .0) (r .first) (w .1));
+            second = rw (logged, keep-join (inSecond F), q, append-nil (keep (inSecond F) (h .log))) (w .2);
+            stocks = λ z. step-stock e (r .middle) (w .0) (w .1) z ∙ ap (on (eqb z (zoneOf e)) (stockBy e)) (r .stocks z)
+                ∙ sym (stocks-first q z);
+          }
+      -- In the second part: it joins the end.
+      go false q = record {
+        middle = r .middle;
+        first = rw (logged, keep-join (inFirst F), q, append-nil (keep (inFirst F) (h .log))) (r .first);
+        second = rw (logged, keep-join (inSecond F), q)
+            (steps-join (keep (inSecond F) (h .log)) e (r .middle) (parkOf h) (parkOf t) (r .second) step);
+        stocks = λ z. r .stocks z ∙ sym (stocks-second q z);
       }
 
-  -- In the second part: it joins the end.
-  one-second : inFirst F e ≡ false → ((z : ℕ) → held (F z) (t .now .zone z) (v .stocks z) ≡ held (F z) (h .now .zone z) (v .stocks z))
-      → Halves v F t
-  one-second q stock = record {
-    middle = r .middle;
-    first = rw (logged, keep-join (inFirst F), q, append-nil (keep (inFirst F) (h .log))) (r .first);
-    second = rw (logged, keep-join (inSecond F), q)
-        (steps-join (keep (inSecond F) (h .log)) e (r .middle) (parkOf h) (parkOf t) (r .second) step);
-    stocks = λ z. r .stocks z ∙ sym (stock z);
-  }
+-- A stock that changes: it is what the zone holds before the checkpoint, and no longer after it.
+stock-before : (k : Checkpoint) (f : ℕ → ℕ) (n : ℕ) → not (hasCheckpoint k) ≡ true → stockAt k (f n) ≡ f (stockAt k n)
+stock-before None f n e = refl
+stock-before (Mutable s) f n e = absurd (false≢true e)
+stock-before (Permanent s) f n e = absurd (false≢true e)
 
--- What a zone holds after an event of the first part, and after one of the second.
-stock-saved : (k : Checkpoint) (v w : ℕ) → not (hasCheckpoint k) ≡ false → stockAt k v ≡ stockAt k w
-stock-saved None v w e = absurd (true≢false e)
-stock-saved (Mutable s) v w e = refl
-stock-saved (Permanent s) v w e = refl
-
-stock-now : (k : Checkpoint) (v : ℕ) → not (hasCheckpoint k) ≡ true → stockAt k v ≡ v
-stock-now None v e = refl
-stock-now (Mutable s) v e = absurd (false≢true e)
-stock-now (Permanent s) v e = absurd (false≢true e)
-
-held-own : (p : Bool) (x : Act) (z : Local) (o : ℕ) → p && not (hasCheckpoint (z .checkpoint)) ≡ true
-    → held p (acted x z) o ≡ x .change (held p z o)
-held-own true x z o e = stock-now (z .checkpoint) _ e ∙ sym (ap (x .change) (stock-now (z .checkpoint) (z .stock) e))
-held-own false x z o e = absurd (false≢true e)
-
-held-owned : (p : Bool) (x : Act) (z : Local) (o : ℕ) → p && not (hasCheckpoint (z .checkpoint)) ≡ false
-    → held p (acted x z) o ≡ held p z o
-held-owned true x z o e = stock-saved (z .checkpoint) _ (z .stock) e
-held-owned false x z o e = refl
+stock-after : (k : Checkpoint) (f : ℕ → ℕ) (n : ℕ) → not (hasCheckpoint k) ≡ false → stockAt k (f n) ≡ stockAt k n
+stock-after None f n e = absurd (true≢false e)
+stock-after (Mutable s) f n e = refl
+stock-after (Permanent s) f n e = refl
 
 stock-receive : (k : Checkpoint) (now : Saved) (flag : Bool) (c : ℕ) → not (hasCheckpoint k || flag) ≡ true
     → stockAt (checkpointAfter k now flag) (now .stock + c) ≡ stockAt k (now .stock) + c
@@ -242,103 +264,55 @@ stock-received None now false c e = absurd (true≢false e)
 stock-received (Mutable s) now flag c e = refl
 stock-received (Permanent s) now flag c e = refl
 
-held-receive : (p : Bool) (a c : ℕ) (flag : Bool) (z : Local) (o : ℕ) → p && not (hasCheckpoint (z .checkpoint) || flag) ≡ true
-    → held p (received a c flag z) o ≡ held p z o + c
-held-receive true a c flag z o e = stock-receive (z .checkpoint) (saved z) flag c e
-held-receive false a c flag z o e = absurd (false≢true e)
-
-held-received : (p : Bool) (a c : ℕ) (flag : Bool) (z : Local) (o : ℕ) → p && not (hasCheckpoint (z .checkpoint) || flag) ≡ false
-    → held p (received a c flag z) o ≡ held p z o
-held-received true a c flag z o e = stock-received (z .checkpoint) (saved z) flag c e
-held-received false a c flag z o e = refl
-
 own-cuts : (v : Opening) (x : Act) (h : History) → x .needs ≤ h .now .zone (x .zone) .stock → PreOnly h → Cuts v h
     → Cuts v (ownH x h)
-own-cuts v x h le pre cuts F closed = go (inFirst F e) refl
+own-cuts v x h le pre cuts F closed = one-cut v F h (ownH x h) (actingOf x (h .now)) (acted x) (le, park-own x h) refl (λ k. refl)
+    (stock-before (z .checkpoint) (x .change) (z .stock)) (stock-after (z .checkpoint) (x .change) (z .stock))
+    (λ q. all-map _ _ (h .log) (apart-own F h x m (and-left (F (x .zone)) (not m) q) (not-true m (and-right (F (x .zone)) (not m) q))) pre)
+    (cuts F (λ j i f q. closed j i f (ap (λ (d : ℕ). has d i) (own-deps x h j) ∙ q)))
   where
-    a : ℕ
-    a = x .zone
+    z : Local
+    z = h .now .zone (x .zone)
 
     m : Bool
-    m = hasCheckpoint (h .now .zone a .checkpoint)
-
-    e : Event
-    e = actingOf x (h .now)
-
-    t : History
-    t = ownH x h
-
-    r : Halves v F h
-    r = cuts F (λ j i f q. closed j i f (ap (λ (d : ℕ). has d i) (own-deps x h j) ∙ q))
-
-    step : Step e (parkOf h) (parkOf t)
-    step = (le, park-own x h)
-
-    same : (z : ℕ) (p : Bool) → eqb z a ≡ true → inFirst F e ≡ p → F z && not (hasCheckpoint (h .now .zone z .checkpoint)) ≡ p
-    same z p q w = ap (λ (k : ℕ). F k && not (hasCheckpoint (h .now .zone k .checkpoint))) (eqb-true z a q) ∙ w
-
-    go : (p : Bool) → inFirst F e ≡ p → Halves v F t
-    go true q = one-first v F h t e step refl r q
-        (all-map _ _ (h .log) (λ y k w. apart-own F h x m (and-left (F a) (not m) q)
-        (not-true m (and-right (F a) (not m) q)) y k w) pre)
-        (λ y st z. ap (λ (Y : TaggedPark). Y .stock z) (st .1) ∙ ap (on (eqb z a) (x .change)) (r .stocks z)
-        ∙ sym (on-map-at (λ (w : Local). held (F z) w (v .stocks z)) (eqb z a) (acted x) (x .change) (h .now .zone z)
-        (λ w. held-own (F z) x (h .now .zone z) (v .stocks z) (same z true w q))))
-    go false q = one-second v F h t e step refl r q
-        (λ z. on-same-at (λ (w : Local). held (F z) w (v .stocks z)) (eqb z a) (acted x) (h .now .zone z)
-        (λ w. held-owned (F z) x (h .now .zone z) (v .stocks z) (same z false w q)))
+    m = hasCheckpoint (z .checkpoint)
 
 receive-cuts : (v : Opening) (a b c : ℕ) (flag : Bool) (l : List Item) (h : History) → h .now .channel a b ≡ message c flag ∷ l
     → PreOnly h → Cuts v h → Cuts v (receiveH a b c flag h)
-receive-cuts v a b c flag l h at pre cuts F closed = go (inFirst F e) refl
+receive-cuts v a b c flag l h at pre cuts F closed = one-cut v F h t (receivingOf a b c flag (h .now)) (received a c flag) (
+  tagged c flag,
+  messages l,
+  ap messages at,
+  or-off-right (hasCheckpoint (z .checkpoint)) flag,
+  park-receive a b c flag l h at,
+  refl,
+)
+    refl (λ k. refl) (stock-receive (z .checkpoint) (saved z) flag c) (stock-received (z .checkpoint) (saved z) flag c) apart
+    (cuts F (λ j i f q. closed j i f (on-keeps (λ (w : Local). has (w .deps) i ≡ true) (eqb j b) (received a c flag) (h .now .zone j)
+    (λ w. has-depsAfter (h .now .zone j .checkpoint) (h .now .zone j .deps) a flag i ∙ or-left _ _ w) q)))
   where
-    n : Bool
-    n = hasCheckpoint (h .now .zone b .checkpoint) || flag
+    z : Local
+    z = h .now .zone b
 
-    e : Event
-    e = receivingOf a b c flag (h .now)
+    n : Bool
+    n = hasCheckpoint (z .checkpoint) || flag
 
     t : History
     t = receiveH a b c flag h
 
-    r : Halves v F h
-    r = cuts F (λ j i f q. closed j i f (on-keeps (λ (z : Local). has (z .deps) i ≡ true) (eqb j b) (received a c flag)
-        (h .now .zone j)
-        (λ w. has-depsAfter (h .now .zone j .checkpoint) (h .now .zone j .deps) a flag i ∙ or-left _ _ w) q))
-
-    step : Step e (parkOf h) (parkOf t)
-    step = (
-      tagged c flag,
-      messages l,
-      ap messages at,
-      or-off-right (hasCheckpoint (h .now .zone b .checkpoint)) flag,
-      park-receive a b c flag l h at,
-      refl,
-    )
-
-    same : (z : ℕ) (p : Bool) → eqb z b ≡ true → inFirst F e ≡ p → F z && not (hasCheckpoint (h .now .zone z .checkpoint) || flag) ≡ p
-    same z p q w = ap (λ (k : ℕ). F k && not (hasCheckpoint (h .now .zone k .checkpoint) || flag)) (eqb-true z b q) ∙ w
-
     -- A receipt in the first part puts the sender into the dependency set.
     depended : not n ≡ true → Depends t b a
     depended q =
-        ap (λ (z : Local). has (z .deps) a) (on-true (eqb b b) (received a c flag) (h .now .zone b) (eqb-refl b))
-        ∙ has-depsAfter (h .now .zone b .checkpoint) (h .now .zone b .deps) a flag a
-        ∙ or-right (has (h .now .zone b .deps) a) _ (ap (λ x. x && eqb a a) q ∙ eqb-refl a)
+        ap (λ (w : Local). has (w .deps) a) (on-true (eqb b b) (received a c flag) z (eqb-refl b))
+        ∙ has-depsAfter (z .checkpoint) (z .deps) a flag a
+        ∙ or-right (has (z .deps) a) _ (ap (λ x. x && eqb a a) q ∙ eqb-refl a)
 
-    go : (p : Bool) → inFirst F e ≡ p → Halves v F t
-    go true q =
+    apart : F b && not n ≡ true → All (λ x. inSecond F x ≡ true → Apart x (receiving a b c n)) (h .log)
+    apart q =
         let fb = and-left (F b) (not n) q in
         let nn = and-right (F b) (not n) q in
-        one-first v F h t e step refl r q
-        (all-map _ _ (h .log) (λ x k w. apart-receive F h a b c n (not-true n nn) (closed b a fb (depended nn)) fb
-        (or-off-left _ flag (not-true n nn)) x k w) pre)
-        (λ y st z. ap (λ (Y : TaggedPark). Y .stock z) (st .4) ∙ ap (on (eqb z b) (λ k. k + c)) (r .stocks z)
-        ∙ sym (on-map-at (λ (w : Local). held (F z) w (v .stocks z)) (eqb z b) (received a c flag) (λ k. k + c) (h .now .zone z)
-        (λ w. held-receive (F z) a c flag (h .now .zone z) (v .stocks z) (same z true w q))))
-    go false q = one-second v F h t e step refl r q
-        (λ z. on-same-at (λ (w : Local). held (F z) w (v .stocks z)) (eqb z b) (received a c flag) (h .now .zone z)
-        (λ w. held-received (F z) a c flag (h .now .zone z) (v .stocks z) (same z false w q)))
+        all-map _ _ (h .log) (apart-receive F h a b c n (not-true n nn) (closed b a fb (depended nn)) fb
+        (or-off-left _ flag (not-true n nn))) pre
 
 pub cuts-kept : (v : Opening) → Kept (λ h. PreOnly h × Cuts v h)
 cuts-kept v = record {

@@ -57,6 +57,15 @@ Step (receiving a b c m) S T =
     (l : Tagged) × (r : List Tagged) × (S .channel a b ≡ l ∷ r) × (m ≡ false → l .post ≡ false) × (T ≡ takenT a b c S)
     × (l .cars ≡ c)
 
+-- The stock of its zone changes so, and no other.
+abbrev pub stockBy : Event → ℕ → ℕ
+stockBy (acting x m) = x .change
+stockBy (receiving a b c m) = λ n. n + c
+
+pub step-stock : (e : Event) (S T : TaggedPark) → Step e S T → (k : ℕ) → T .stock k ≡ on (eqb k (zoneOf e)) (stockBy e) (S .stock k)
+step-stock (acting x m) S T s k = ap (λ (Y : TaggedPark). Y .stock k) (s .1)
+step-stock (receiving a b c m) S T s k = ap (λ (Y : TaggedPark). Y .stock k) (s .4)
+
 -- What lets e, then f be done as f, then e: they are of different zones; and a receipt f does not take what e sent, since f counts
 -- as before, and e, if it sends on f's channel, as after.
 abbrev pub Apart : Event → Event → Type 0
