@@ -10,8 +10,8 @@ use Rattle.rules.specs.Change.{on, join, cons-if}
 use Rattle.rules.specs.Park.{Park, Move, hand, handIf, step, owner, hands, takes}
 use Rattle.rules.proofs.Tests.{both-true}
 
--- What a zone does by itself: it needs so many cars in its stock, changes the stock in any way, and puts a message of so many cars on those
--- of its channels that a test names, none or one. The move is what the park is fed of it.
+-- What a zone does by an own event that is no receipt: it needs so many cars in its stock, changes the stock in any way, and puts a message
+-- of so many cars on the channels that `goes` names by sender and receiver, one or none. The move is what the park is fed of it.
 pub record Act : Type 0 where
   pub zone : ℕ
   pub needs : ℕ

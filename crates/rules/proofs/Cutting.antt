@@ -279,15 +279,8 @@ own-cuts v x h le pre cuts F closed = one-cut v F h (ownH x h) (actingOf x (h .n
 
 receive-cuts : (v : Opening) (a b c : ℕ) (flag : Bool) (l : List Item) (h : History) → h .now .channel a b ≡ message c flag ∷ l
     → PreOnly h → Cuts v h → Cuts v (receiveH a b c flag h)
-receive-cuts v a b c flag l h at pre cuts F closed = one-cut v F h t (receivingOf a b c flag (h .now)) (received a c flag) (
-  tagged c flag,
-  messages l,
-  ap messages at,
-  or-off-right (hasCheckpoint (z .checkpoint)) flag,
-  park-receive a b c flag l h at,
-  refl,
-)
-    refl (λ k. refl) (stock-receive (z .checkpoint) (saved z) flag c) (stock-received (z .checkpoint) (saved z) flag c) apart
+receive-cuts v a b c flag l h at pre cuts F closed = one-cut v F h t e (received a c flag) step refl (λ k. refl)
+    (stock-receive (z .checkpoint) (saved z) flag c) (stock-received (z .checkpoint) (saved z) flag c) apart
     (cuts F (λ j i f q. closed j i f (on-keeps (λ (w : Local). has (w .deps) i ≡ true) (eqb j b) (received a c flag) (h .now .zone j)
     (λ w. has-depsAfter (h .now .zone j .checkpoint) (h .now .zone j .deps) a flag i ∙ or-left _ _ w) q)))
   where
@@ -297,8 +290,21 @@ receive-cuts v a b c flag l h at pre cuts F closed = one-cut v F h t (receivingO
     n : Bool
     n = hasCheckpoint (z .checkpoint) || flag
 
+    e : Event
+    e = receivingOf a b c flag (h .now)
+
     t : History
     t = receiveH a b c flag h
+
+    step : Step e (parkOf h) (parkOf t)
+    step = (
+      tagged c flag,
+      messages l,
+      ap messages at,
+      or-off-right (hasCheckpoint (z .checkpoint)) flag,
+      park-receive a b c flag l h at,
+      refl,
+    )
 
     -- A receipt in the first part puts the sender into the dependency set.
     depended : not n ≡ true → Depends t b a
@@ -307,7 +313,7 @@ receive-cuts v a b c flag l h at pre cuts F closed = one-cut v F h t (receivingO
         ∙ has-depsAfter (z .checkpoint) (z .deps) a flag a
         ∙ or-right (has (z .deps) a) _ (ap (λ x. x && eqb a a) q ∙ eqb-refl a)
 
-    apart : F b && not n ≡ true → All (λ x. inSecond F x ≡ true → Apart x (receiving a b c n)) (h .log)
+    apart : inFirst F e ≡ true → All (λ x. inSecond F x ≡ true → Apart x e) (h .log)
     apart q =
         let fb = and-left (F b) (not n) q in
         let nn = and-right (F b) (not n) q in

@@ -47,7 +47,8 @@ actingOf x s = acting x (hasCheckpoint (s .zone (x .zone) .checkpoint))
 abbrev pub receivingOf : ℕ → ℕ → ℕ → Bool → Site → Event
 receivingOf a b c flag s = receiving a b c (hasCheckpoint (s .zone b .checkpoint) || flag)
 
--- An act changes its zone's stock, and keeps its dependency set and its checkpoint; its message has the flag if there is a checkpoint.
+-- An act changes its zone's stock, counts as one own event, and keeps the dependency set and the checkpoint. Its message has the flag if
+-- the zone has a checkpoint.
 abbrev pub acted : Act → Local → Local
 acted x z = record { stock = x .change (z .stock); deps = z .deps; events = z .events + 1; checkpoint = z .checkpoint }
 
