@@ -10,7 +10,7 @@ use Rattle.rules.specs.Opening.{Opening}
 use Rattle.rules.specs.Questions.{question, isCount, isOn}
 use Rattle.rules.specs.Site.{Item, message, request, Call, send, receive, start}
 use Rattle.zone.specs.Zone.{isZoneSound, openedZone, openZone, sendStep, receiveStep, requestStep, startStep}
-use Rattle.zone.specs.declared.Opening.{Opening as Opened}
+use Rattle.zone.specs.declared.ZoneOpened.{ZoneOpened}
 use Rattle.zone.specs.declared.Zone.{Zone}
 use Rattle.network.specs.Network.{Network, openNetwork, takeStep, answer, isAccepted, made, after}
 use Rattle.network.proofs.Network.{ask-accepted, Numbered, numbered, call-keeps}
@@ -19,8 +19,8 @@ use Rattle.network.proofs.Network.{ask-accepted, Numbered, numbered, ca
 pub opened-zone : (n : ℕ) (o : Opening) (k : ℕ) → openZone n (k + 1) (o .stocks k) .refusal ≡ 0
     → openZone n (k + 1) (o .stocks k) .zone ≡ openNetwork n o .zone k
 unfolding openZone
-opened-zone n o k e = ap (λ (x : Opened). x .zone)
-    (ask-accepted (λ (x : Opened). x .refusal) (question 2 (isCount n) ∷ question 5 (isOn n (k + 1)) ∷ [])
+opened-zone n o k e = ap (λ (x : ZoneOpened). x .zone)
+    (ask-accepted (λ (x : ZoneOpened). x .refusal) (question 2 (isCount n) ∷ question 5 (isOn n (k + 1)) ∷ [])
     (λ m. record { refusal = m; zone = openedZone 2 1 0 }) (record { refusal = 0; zone = openedZone n (k + 1) (o .stocks k) })
     (λ m. refl) refl e .1)
 

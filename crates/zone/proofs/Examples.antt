@@ -19,11 +19,11 @@ use Rattle.zone.specs.Zone.{
 }
 use Rattle.zone.specs.declared.Zone.{Zone}
 use Rattle.zone.specs.declared.Step.{Step}
-use Rattle.zone.specs.declared.Opening.{Opening}
+use Rattle.zone.specs.declared.ZoneOpened.{ZoneOpened}
 
 -- What the zone part answers: an opening, or a step.
 pub data Reply : Type 0 where
-  opening : Opening → Reply
+  opening : ZoneOpened → Reply
   step : Step → Reply
 
 pub record Row : Type 0 where
@@ -47,7 +47,7 @@ abbrev pub saved : ℕ → ℕ → Saved
 saved stock events = record { stock = stock; events = events }
 
 -- An opening, with the refusal's number and the zone.
-abbrev pub opens : Opening → ℕ → Zone → Row
+abbrev pub opens : ZoneOpened → ℕ → Zone → Row
 opens o n z = record { answer = opening o; expected = opening (record { refusal = n; zone = z }) }
 
 -- A step, with the refusal's number, the zone, the flag, the request targets and the set carried.

@@ -13,7 +13,7 @@ use Rattle.local.specs.Requesting.{requestedBy, startedBy}
 use Rattle.local.specs.declared.Requesting.{Requesting}
 use Rattle.zone.specs.declared.Zone.{Zone}
 use Rattle.zone.specs.declared.Step.{Step}
-use Rattle.zone.specs.declared.Opening.{Opening}
+use Rattle.zone.specs.declared.ZoneOpened.{ZoneOpened}
 
 -- The zone's local state, of which the rules speak, and the zone with another one.
 abbrev pub localOf : Zone → Local
@@ -50,7 +50,7 @@ openedZone count number stock =
     let l = opened (index number) stock in
     record { number = number; count = count; stock = l .stock; deps = l .deps; events = l .events; checkpoint = l .checkpoint }
 
-unfoldable pub openZone : ℕ → ℕ → ℕ → Opening
+unfoldable pub openZone : ℕ → ℕ → ℕ → ZoneOpened
 openZone count number stock =
     ask (question 2 (isCount count) ∷ question 5 (isOn count number) ∷ [])
     (λ n. record { refusal = n; zone = openedZone 2 1 0 })

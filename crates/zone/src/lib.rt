@@ -33,7 +33,7 @@ pub struct Zone {
 }
 
 // What opening answers: the refusal's number or 0, and the zone.
-pub struct Opening {
+pub struct ZoneOpened {
     pub refusal: u8,
     pub zone: Zone,
 }
@@ -62,22 +62,22 @@ fn refused(zone: Zone, n: u8) -> Step
 
 impl Zone {
     // A zone at first, with its stock.
-    pub fn open(count: u8, number: u8, stock: u16) -> Opening
+    pub fn open(count: u8, number: u8, stock: u16) -> ZoneOpened
         ensures { λ r. ⌜ r ≡ openZone count number stock ⌝ }
     {
         if !questions::is_count(count) {
-            return Opening {
+            return ZoneOpened {
                 refusal: 2,
                 zone: opened(FEWEST_ZONES, 1, 0),
             };
         }
         if !questions::is_on(count, number) {
-            return Opening {
+            return ZoneOpened {
                 refusal: 5,
                 zone: opened(FEWEST_ZONES, 1, 0),
             };
         }
-        Opening {
+        ZoneOpened {
             refusal: 0,
             zone: opened(count, number, stock),
         }
