@@ -40,7 +40,7 @@ pub struct Channels {
     pub lens: [u8; CHANNELS],
 }
 
-// The index of the channel from one zone to another, both by index. A site has at most 8 zones, so the indices are below 8.
+// The index of the channel from one zone to another, both by index. Scan, steps and same call it for zones of a site, which has at most 8.
 pub fn channel_index(from: usize, to: usize) -> usize
     requires { ⌜ (from < mostZones) × (to < mostZones) ⌝ }
     ensures { λ k. ⌜ (k ≡ Rattle.channel.specs.Channels.channelIndex from to) × (k < mostChannels) ⌝ }
@@ -58,7 +58,8 @@ pub fn is_channel(count: u8, k: usize) -> bool
     a & b & c
 }
 
-// Whether no channel from a zone holds an item: one test of eight bytes spares eight of a channel. The index is of a zone of a site.
+// Whether no channel from a zone holds an item: one test of eight bytes spares eight of a channel. Scan and same call it
+// for a zone of a site.
 pub fn all_empty(lens: &[u8; CHANNELS], from: usize) -> bool
     requires { ⌜ from < mostZones ⌝ }
     ensures { λ r. ⌜ r ≡ allEmpty (now (lens .entry)) from ⌝ }
@@ -84,7 +85,7 @@ pub fn looked_at(len: u8) -> usize
     len as usize
 }
 
-// One item more at the end of a channel; a full channel stays as it is. The index is one that `channel_index` gives.
+// One item more at the end of a channel; a full channel stays as it is. Steps calls it with an index that `channel_index` gave.
 pub fn push(items: &mut [u16; WORDS], lens: &mut [u8; CHANNELS], k: usize, word: u16)
     requires { ⌜ k < mostChannels ⌝ }
     ensures { λ r. ⌜
@@ -99,7 +100,7 @@ pub fn push(items: &mut [u16; WORDS], lens: &mut [u8; CHANNELS], k: usize, word:
     lens[k] = n + 1;
 }
 
-// The first item leaves a channel that holds one: question 9 has been asked.
+// The first item leaves a channel that holds one. Steps calls it behind question 9.
 pub fn pop(items: &mut [u16; WORDS], lens: &mut [u8; CHANNELS], k: usize) -> u16
     requires { ⌜ (k < mostChannels) × (0 < getD (now lens) k 0) ⌝ }
     ensures { λ r. ⌜
@@ -118,7 +119,8 @@ pub fn pop(items: &mut [u16; WORDS], lens: &mut [u8; CHANNELS], k: usize) -> u16
     first
 }
 
-// The number of the lowest zone of a set whose channel is full; 0 where all have a free place. The index is of a zone of a site.
+// The number of the lowest zone of a set whose channel is full; 0 where all have a free place. Steps calls it
+// behind question 5, for a zone of a site.
 pub fn first_full(lens: &[u8; CHANNELS], from: usize, to: u8) -> u8
     requires { ⌜ from < mostZones ⌝ }
     ensures { λ r. ⌜
@@ -138,7 +140,7 @@ pub fn first_full(lens: &[u8; CHANNELS], from: usize, to: u8) -> u8
 }
 
 // A request, carrying a set, on the channel to each zone of another set: as many as that set has ones, the next one to the zone that
-// its trailing zeros name. The index is of a zone of a site.
+// its trailing zeros name. Steps calls it behind question 5, for a zone of a site.
 pub fn request_all(
     items: &mut [u16; WORDS],
     lens: &mut [u8; CHANNELS],

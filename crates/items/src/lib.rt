@@ -49,7 +49,8 @@ fn shown_for(shown: &[u16; ZONES], high: usize) -> u16
 }
 
 // The records that are inside the events shown, counted by the high byte of their word: messages sent on the channel at index k stand
-// at k, receipts on it at 64 + k. Each of the at most 1,000 records has its own-event ordinal. `counted-of` (crates/items/proofs) says
+// at k, receipts on it at 64 + k. Recorder calls it for a run that its journal replays to: at
+// most 1,000 records, each with its own-event ordinal. `counted-of` (crates/items/proofs) says
 // that these are the numbers that `write` requires.
 pub fn counted(words: &[u16], ordinals: &[u16], shown: [u16; ZONES]) -> [u16; HIGH_BYTES]
     requires { ⌜ (length (now words) ≤ mostRecords) × (length (now ordinals) ≡ length (now words)) ⌝ }
@@ -123,10 +124,10 @@ fn is_sent(high: usize, ordinal: u16, shown: &[u16; ZONES]) -> bool
 }
 
 // The words of all items, by sender, then receiver, then order sent, from the front of the lent bytes on. What `counted` counted of these
-// records is `seen`, and question 14 has seen that there is room. The items of a channel are its last messages: one walk over the records,
-// the last one first, writes the words of each index from their end on, until none is missing. At k + 1 `ends` has the number of the items
-// before the written ones of channel k; where this is the channel's start, its messages further back were received, or the site has no channel
-// there.
+// records is `seen`; recorder calls it behind question 14, by which there is room. The items of a channel are its last messages: one walk
+// over the records, the last one first, writes the words of each index from their end on, until none is missing. At k + 1 `ends` has the
+// number of the items before the written ones of channel k; where this is the channel's start, its messages further back were received, or the
+// site has no channel there.
 pub fn write(
     out: &mut [u8],
     count: u8,

@@ -48,7 +48,7 @@ fn bit(index: u8) -> u8
     1u8 << index
 }
 
-// A zone at first. The index is below 8, as a set of zones has 8 bits.
+// A zone at first. Opening calls it for each of the eight indices, zone behind 2 and 5.
 pub fn open(me: u8, stock: u16) -> Local
     requires { ⌜ me < mostZones ⌝ }
     ensures { λ r. ⌜ r ≡ opened me stock ⌝ }
@@ -61,7 +61,7 @@ pub fn open(me: u8, stock: u16) -> Local
     }
 }
 
-// The sender's side of a message. The caller has asked whether the stock covers the cars and counts own events up to 1,000.
+// The sender's side of a message. Steps and zone call it behind 6 and 7: there is room for an own event, and the stock covers the cars.
 pub fn send(mut z: Local, cars: u8) -> Local
     requires { ⌜ (cars ≤ z .stock) × (z .events < mostRecords) ⌝ }
     ensures { λ r. ⌜ r ≡ sent cars z ⌝ }
@@ -101,7 +101,7 @@ fn checkpoint_after(checkpoint: Checkpoint, now: Saved, flag: bool) -> Checkpoin
     }
 }
 
-// The receiver's side of a message. The caller knows that the stock stays within 16 bits and counts own events up to 1,000.
+// The receiver's side of a message. Steps and zone call it behind 5 and 6, and behind 1 or 20, by which the stock stays within 16 bits.
 pub fn receive(z: Local, from: u8, cars: u8, flag: bool) -> Local
     requires { ⌜ (from < mostZones) × (z .stock + cars ≤ mostCars) × (z .events < mostRecords) ⌝ }
     ensures { λ r. ⌜ r ≡ received from cars flag z ⌝ }
@@ -161,7 +161,7 @@ fn turn(z: Local, kept: Saved, me: u8, set: u8) -> Requesting
     }
 }
 
-// Receipt of a request. The index is below 8, as a set of zones has 8 bits.
+// Receipt of a request. Steps and zone call it for a zone of a site, so that the index is below 8.
 pub fn request(z: Local, me: u8, set: u8) -> Requesting
     requires { ⌜ me < mostZones ⌝ }
     ensures { λ r. ⌜ r ≡ requestedBy me set z ⌝ }
@@ -182,7 +182,8 @@ pub fn request(z: Local, me: u8, set: u8) -> Requesting
     }
 }
 
-// Start: a permanent checkpoint of this moment, whatever stood before. The index is below 8, as a set of zones has 8 bits.
+// Start: a permanent checkpoint of this moment, whatever stood before. Steps and zone call it for a zone of a site, so that
+// the index is below 8.
 pub fn start(z: Local, me: u8) -> Requesting
     requires { ⌜ me < mostZones ⌝ }
     ensures { λ r. ⌜ r ≡ startedBy me z ⌝ }

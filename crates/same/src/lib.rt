@@ -188,7 +188,8 @@ fn same_channels(
     same
 }
 
-// Whether a run has the state of another one, over the zones and channels of the other's site, which has at most 8 zones.
+// Whether a run has the state of another one, over the zones and channels of the other's site. Writer calls it for a
+// sound one, which has at most 8 zones.
 pub fn same_state(a: Run, b: Run) -> bool
     requires { ⌜ countOf (b .head) ≤ mostZones ⌝ }
     ensures { λ r. ⌜ r ≡ sameState a b ⌝ }
