@@ -13,6 +13,7 @@ use Rattle.zone.specs.Zone.{isZoneSound, openedZone, openZone, sendStep, receiv
 use Rattle.zone.specs.declared.ZoneOpened.{ZoneOpened}
 use Rattle.zone.specs.declared.Zone.{Zone}
 use Rattle.network.specs.Network.{Network, openNetwork, takeStep, answer, isAccepted, made, after}
+use Rattle.network.specs.Polls.{stepOf}
 use Rattle.network.proofs.Network.{ask-accepted, Numbered, numbered, call-keeps}
 
 -- An accepted opening hands back the zone that the network has at that index.
@@ -23,12 +24,6 @@ opened-zone n o k e = ap (λ (x : ZoneOpened). x .zone)
     (ask-accepted (λ (x : ZoneOpened). x .refusal) (question 2 (isCount n) ∷ question 5 (isOn n (k + 1)) ∷ [])
     (λ m. record { refusal = m; zone = openedZone 2 1 0 }) (record { refusal = 0; zone = openedZone n (k + 1) (o .stocks k) })
     (λ m. refl) refl e .1)
-
--- The zone whose step a call is.
-abbrev pub stepOf : Call → ℕ
-stepOf (send a b cars) = a
-stepOf (receive a b) = b
-stepOf (start a) = a
 
 unsound : (z : Zone) (n k : ℕ) → z .number ≡ k + 1 → z .count ≡ n → n ≤ k → isZoneSound z ≡ false
 unfolding isZoneSound isOn
