@@ -1,32 +1,24 @@
--- `cut_recorder::main` meets its contract: what is written lies within the buffer.
-use Rattle.report.proofs.Within.{prints-within, prints-taken}
+-- `cut_recorder::main` meets its contract: the journal lies within the bytes read.
+use mathlib.Core.Path.{sym}
+use lib.Seq.{length-take-le}
 use borrow.Author.Needs.{needs}
 use Rattle.cut_recorder.proofs.main.Statement.{statement}
 use Rattle.cut_recorder.proofs.main.Tie as tie
 
-slice-aggregate-read-full : tie.Need-slice-aggregate-read-full
-slice-aggregate-read-full c = search needs
+slice-aggregate-read : tie.Need-slice-aggregate-read
+slice-aggregate-read c = search needs
 
-read-full-requires : tie.Need-read-full-requires
-read-full-requires c κs = search needs
+read-requires : tie.Need-read-requires
+read-requires c κs = search needs
 
-array-share-prefix-input : tie.Need-array-share-prefix-input
-array-share-prefix-input c = search needs
+enum-known-input : tie.Need-enum-known-input
+enum-known-input c = search needs
 
-slice-aggregate-report : tie.Need-slice-aggregate-report
-slice-aggregate-report c = search needs
-
-slice-aggregate-report-2 : tie.Need-slice-aggregate-report-2
-slice-aggregate-report-2 c = search needs
-
-report-requires : tie.Need-report-requires
-report-requires c κs = search needs
-
-array-share-prefix-out : tie.Need-array-share-prefix-out
-array-share-prefix-out c = prints-within _ _ _ _ (c .before .report .ensures)
+enum-told : tie.Need-enum-told
+enum-told c = search needs
 
 slice-aggregate-write-all : tie.Need-slice-aggregate-write-all
-slice-aggregate-write-all c = prints-taken _ _ _ _ (c .before .before .report .ensures)
+slice-aggregate-write-all c = search needs
 
 write-all-requires : tie.Need-write-all-requires
 write-all-requires c κs = search needs
@@ -34,17 +26,42 @@ write-all-requires c κs = search needs
 returns : tie.Need-returns
 returns c = search needs
 
+array-share-prefix-space : tie.Need-array-share-prefix-space
+array-share-prefix-space c = c .before .before .before .before .read .ensures _ (c .before .input .given .1)
+
+slice-aggregate-print : tie.Need-slice-aggregate-print
+slice-aggregate-print c = sym (length-take-le _ _ (array-share-prefix-space (c .before)))
+
+print-requires : tie.Need-print-requires
+print-requires c κs = search needs
+
+slice-aggregate-write-all-2 : tie.Need-slice-aggregate-write-all-2
+slice-aggregate-write-all-2 c = search needs
+
+write-all-requires-2 : tie.Need-write-all-requires-2
+write-all-requires-2 c κs = search needs
+
+returns-2 : tie.Need-returns-2
+returns-2 c = search needs
+
+returns-3 : tie.Need-returns-3
+returns-3 c = search needs
+
 pub main-spec : {M : Type 1} → statement M
 main-spec =
     tie.close
     (tie.spec
-    slice-aggregate-read-full
-    read-full-requires
-    array-share-prefix-input
-    slice-aggregate-report
-    slice-aggregate-report-2
-    report-requires
-    array-share-prefix-out
+    slice-aggregate-read
+    read-requires
+    enum-known-input
+    enum-told
     slice-aggregate-write-all
     write-all-requires
-    returns)
+    returns
+    array-share-prefix-space
+    slice-aggregate-print
+    print-requires
+    slice-aggregate-write-all-2
+    write-all-requires-2
+    returns-2
+    returns-3)
