@@ -1,12 +1,15 @@
 //! Gives the built program journals and other bytes on its standard input and compares what it
-//! prints with the line of this implementation.
+//! prints with the line of this implementation. Then makes its reads and writes fail and compares
+//! what it says on standard error.
 
 use second::generate;
 use second::print;
 use second::random::{finish, Random};
 use second::site::{Run, MOST_RECORDS, PLACES};
-use std::fs::File;
+use std::fs::{File, OpenOptions};
 use std::io::Write;
+use std::os::fd::OwnedFd;
+use std::os::unix::net::UnixStream;
 use std::process::{Child, ChildStdin, Command, Output, Stdio};
 use std::thread::sleep;
 use std::time::Duration;
@@ -26,6 +29,19 @@ const PAUSE: Duration = Duration::from_micros(50);
 
 /// How many differences are shown.
 const SHOWN: u32 = 3;
+
+/// What the program says on standard error where a read or a write fails.
+const NOT_READ: &str = "cut_recorder: standard input could not be read\n";
+const NOT_WRITTEN: &str = "cut_recorder: the answer was not written whole\n";
+
+/// A run in which a read or a write failed: what the program wrote, and what it should have written
+/// on standard output and on standard error.
+struct Failed {
+    name: &'static str,
+    output: Output,
+    printed: String,
+    said: &'static str,
+}
 
 /// An input with its name.
 struct Input {
@@ -70,7 +86,29 @@ fn main() {
         }
     }
     println!("program: {} inputs compared, {wrong} differ", inputs.len());
+    wrong += untold(program, scratch);
     std::process::exit(i32::from(wrong != 0));
+}
+
+/// Makes reads and writes of the program fail; how many of these it does not tell as expected.
+fn untold(program: &str, scratch: &str) -> u32 {
+    let mut failed = unread(program, scratch);
+    failed.extend(unwritten(program, scratch));
+    let mut wrong = 0;
+    for run in &failed {
+        let (name, status) = (run.name, run.output.status);
+        let printed = String::from_utf8_lossy(&run.output.stdout);
+        let said = String::from_utf8_lossy(&run.output.stderr);
+        if !status.success() || printed != run.printed || said != run.said {
+            wrong += 1;
+            println!("program: {name}: {status}");
+            println!("  printed {:?}, said {said:?}", cut(&printed));
+            println!("  expected {:?}, {:?}", cut(&run.printed), run.said);
+        }
+    }
+    let made = failed.len();
+    println!("program: {made} failures made, {wrong} not told as expected");
+    wrong
 }
 
 /// The first part of a line.
@@ -176,9 +214,22 @@ fn widest() -> Run {
 }
 
 fn started(program: &str, input: Stdio) -> Child {
-    Command::new(program)
+    begun(&mut Command::new(program), input, Stdio::piped())
+}
+
+/// Starts the program by a shell, which has prepared what it inherits.
+fn prepared(script: &str, program: &str, input: Stdio, output: Stdio) -> Child {
+    begun(
+        Command::new("sh").args(["-c", script, program]),
+        input,
+        output,
+    )
+}
+
+fn begun(command: &mut Command, input: Stdio, output: Stdio) -> Child {
+    command
         .stdin(input)
-        .stdout(Stdio::piped())
+        .stdout(output)
         .stderr(Stdio::piped())
         .spawn()
         .expect("the program can be started")
@@ -216,4 +267,82 @@ fn write(mut pipe: ChildStdin, way: Way, bytes: &[u8]) {
             sleep(PAUSE);
         }
     }
+}
+
+/// Standard inputs that cannot be read, or not to their end: nothing is to be printed.
+fn unread(program: &str, scratch: &str) -> Vec<Failed> {
+    let closed = prepared("exec \"$0\" <&-", program, Stdio::null(), Stdio::piped());
+    let directory = File::open("/").expect("the root directory can be opened");
+    let written = File::create(scratch).expect("the scratch file can be made");
+    [
+        ("a closed input", closed),
+        (
+            "a directory as the input",
+            started(program, directory.into()),
+        ),
+        (
+            "an input that is open for writing",
+            started(program, written.into()),
+        ),
+        (
+            "an input that breaks off",
+            started(program, broken(&generate::CASE_A)),
+        ),
+    ]
+    .into_iter()
+    .map(|(name, child)| Failed {
+        name,
+        output: ended(child),
+        printed: String::new(),
+        said: NOT_READ,
+    })
+    .collect()
+}
+
+/// An input that has these bytes and then fails: a socket whose other end was closed with a byte
+/// unread.
+fn broken(bytes: &[u8]) -> Stdio {
+    let (mut near, mut far) = UnixStream::pair().expect("there are sockets");
+    far.write_all(bytes).expect("the bytes can be sent");
+    near.write_all(&[0]).expect("a byte can be sent");
+    drop(far);
+    OwnedFd::from(near).into()
+}
+
+/// Standard outputs that take nothing, or a part of the line.
+fn unwritten(program: &str, scratch: &str) -> Vec<Failed> {
+    let journal = generate::bytes_of(&widest());
+    let given = |script: &str, output: Stdio| {
+        let mut child = prepared(script, program, Stdio::piped(), output);
+        // Where the output is a pipe, its reader goes away before there is an answer.
+        drop(child.stdout.take());
+        let pipe = child.stdin.take().expect("the program has a pipe");
+        write(pipe, Way::Whole, &journal);
+        ended(child)
+    };
+    let full = OpenOptions::new().write(true).open("/dev/full");
+    let full = full.expect("the full device can be opened");
+    let short = File::create(scratch).expect("the scratch file can be made");
+    let closed = given("exec \"$0\" >&-", Stdio::null());
+    let full = given("exec \"$0\"", full.into());
+    // A process that does not ignore the signal of a pipe without a reader, or of a file at its
+    // limit, is ended by it.
+    let unread = given("trap '' PIPE; exec \"$0\"", Stdio::piped());
+    let mut part = given("trap '' XFSZ; ulimit -f 4; exec \"$0\"", short.into());
+    part.stdout = std::fs::read(scratch).expect("the scratch file can be read");
+    let line = print::line(&journal);
+    let length = part.stdout.len();
+    assert!(0 < length && length < line.len(), "a part is written");
+    let told = |name, output, printed: &str| Failed {
+        name,
+        output,
+        printed: printed.to_string(),
+        said: NOT_WRITTEN,
+    };
+    vec![
+        told("a closed output", closed, ""),
+        told("a full device as the output", full, ""),
+        told("a pipe without a reader as the output", unread, ""),
+        told("an output that takes a part", part, &line[..length]),
+    ]
 }
