@@ -38,11 +38,11 @@ static void traffic(void)
 static void damaged(void)
 {
     uint8_t other[sizeof journal];
-    cut_reading r = journal_read(journal, sizeof journal);
+    cut_reading r = cut_journal_read(journal, sizeof journal);
     must(r.refusal == 0 && r.run.head.records == 9 && r.run.head.zones[1].stock == 17, "the journal reads back");
     memcpy(other, journal, sizeof journal);
     other[15] = 200;
-    r = journal_read(other, sizeof other);
+    r = cut_journal_read(other, sizeof other);
     must(r.refusal == 19 && r.position == 3 && r.run.head.count == 2, "a wrong record is refused with its position");
 }
 
@@ -65,10 +65,10 @@ int main(void)
     must(memcmp(bytes, recording, sizeof recording) == 0, "the recording is as worked out by hand");
 
     memset(bytes, 0, sizeof bytes);
-    w = journal_record(journal, sizeof journal, bytes, sizeof bytes);
+    w = cut_journal_record(journal, sizeof journal, bytes, sizeof bytes);
     must(w.refusal == 0 && w.written == sizeof recording, "the journal's recording is written");
     must(memcmp(bytes, recording, sizeof recording) == 0, "it is the same");
-    must(journal_record(journal, sizeof journal - 1, bytes, sizeof bytes).refusal == 17, "a cut journal is refused");
+    must(cut_journal_record(journal, sizeof journal - 1, bytes, sizeof bytes).refusal == 17, "a cut journal is refused");
     damaged();
 
     cut_run unsound = run;

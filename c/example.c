@@ -31,10 +31,10 @@ static void put(uint8_t from, uint8_t to, item i)
 /* A request to each zone of the answer's set. */
 static void send_requests(uint8_t from, cut_step r)
 {
-    uint32_t n = zone_requests(r.to);
+    uint32_t n = cut_zone_requests(r.to);
     uint8_t rest = r.to;
     for (uint32_t i = 0; i < n; i++) {
-        uint8_t to = zone_next(rest);
+        uint8_t to = cut_zone_next(rest);
         put(from, to, (item){1, 0, 0, r.carried});
         rest &= (uint8_t)(rest - 1);
     }
@@ -42,7 +42,7 @@ static void send_requests(uint8_t from, cut_step r)
 
 static void send(uint8_t from, uint8_t to, uint8_t cars)
 {
-    cut_step r = zone_send(zones[from], to, cars);
+    cut_step r = cut_zone_send(zones[from], to, cars);
     must(r.refusal == 0, "send");
     zones[from] = r.zone;
     put(from, to, (item){0, cars, r.flag, 0});
@@ -52,7 +52,7 @@ static void receive(uint8_t from, uint8_t to)
 {
     must(first[from][to] < last[from][to], "the line holds an item");
     item i = lines[from][to][first[from][to]];
-    cut_step r = i.request ? zone_request(zones[to], i.set) : zone_receive(zones[to], from, i.cars, i.flag);
+    cut_step r = i.request ? cut_zone_request(zones[to], i.set) : cut_zone_receive(zones[to], from, i.cars, i.flag);
     must(r.refusal == 0, "receive");
     first[from][to]++;
     zones[to] = r.zone;
@@ -62,7 +62,7 @@ static void receive(uint8_t from, uint8_t to)
 int main(void)
 {
     for (uint8_t k = 1; k <= 3; k++) {
-        cut_opening o = zone_open(3, k, 10);
+        cut_opening o = cut_zone_open(3, k, 10);
         must(o.refusal == 0, "open");
         zones[k] = o.zone;
     }
@@ -70,7 +70,7 @@ int main(void)
     receive(3, 2);
     send(2, 1, 1);
     receive(2, 1);
-    cut_step r = zone_start(zones[1]);
+    cut_step r = cut_zone_start(zones[1]);
     must(r.refusal == 0, "start");
     zones[1] = r.zone;
     send_requests(1, r);
@@ -85,7 +85,7 @@ int main(void)
 
     cut_zone unsound = zones[1];
     unsound.mark = 3;
-    r = zone_send(unsound, 2, 1);
+    r = cut_zone_send(unsound, 2, 1);
     must(r.refusal == 1 && r.zone.mark == 3 && r.zone.stock == unsound.stock, "a mark above 2 is refused as it came");
     return 0;
 }

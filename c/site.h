@@ -19,7 +19,7 @@
  * together, and no mark is above 2. Recording and journal writing also ask whether the run is what its journal replays to. A call on any
  * other run is refused with 1.
  *
- * Whoever has a journal and wants its recording needs journal_record alone.
+ * Whoever has a journal and wants its recording needs cut_journal_record alone.
  *
  * Journal and recording are 16-bit words, high byte first.
  * Journal: 1 * 8192 + (zones - 1) * 1024 + number of records; the opening stock of each zone; a word a record:
@@ -87,7 +87,7 @@ typedef struct {
 } cut_reading;
 
 /* What writing answers. written: the number of bytes written to the front of out; bytes behind them keep what they had. position: as above,
- * of journal_record alone. */
+ * of cut_journal_record alone. */
 typedef struct {
     uint8_t refusal;
     size_t position;
@@ -100,26 +100,26 @@ _Static_assert(sizeof(cut_reading) == 4232 && sizeof(cut_written) == 24, "the la
 
 /* The library's functions. Those on a run take its head by value and its three arrays by pointer; the calls below them, on a cut_run, are
  * what a desk uses. */
-cut_answer site_open(uint8_t count, const uint16_t *stocks, size_t n);
-cut_head_answer site_send(cut_head head, uint16_t *items, uint8_t *lens, uint16_t *journal, uint8_t from, uint8_t to, uint8_t cars);
-cut_head_answer site_receive(cut_head head, uint16_t *items, uint8_t *lens, uint16_t *journal, uint8_t from, uint8_t to);
-cut_head_answer site_start(cut_head head, uint16_t *items, uint8_t *lens, uint16_t *journal, uint8_t zone);
-cut_written site_record(cut_head head, const uint16_t *items, const uint8_t *lens, const uint16_t *journal, uint8_t *out, size_t size);
-cut_written journal_write(cut_head head, const uint16_t *items, const uint8_t *lens, const uint16_t *journal, uint8_t *out, size_t size);
+cut_answer cut_site_open(uint8_t count, const uint16_t *stocks, size_t n);
+cut_head_answer cut_site_send(cut_head head, uint16_t *items, uint8_t *lens, uint16_t *journal, uint8_t from, uint8_t to, uint8_t cars);
+cut_head_answer cut_site_receive(cut_head head, uint16_t *items, uint8_t *lens, uint16_t *journal, uint8_t from, uint8_t to);
+cut_head_answer cut_site_start(cut_head head, uint16_t *items, uint8_t *lens, uint16_t *journal, uint8_t zone);
+cut_written cut_site_record(cut_head head, const uint16_t *items, const uint8_t *lens, const uint16_t *journal, uint8_t *out, size_t size);
+cut_written cut_journal_write(cut_head head, const uint16_t *items, const uint8_t *lens, const uint16_t *journal, uint8_t *out, size_t size);
 
 /* Reads a journal. Refused with: 15 it has no header of edition 1; 16 the header's zones or records are out of range; 17 its length does not
  * fit the header; 4 the stocks sum to more than 65,535; then for each record in turn 18 it is not well formed, 19 its call is not accepted.
  * Then a run of 2 zones with stock 0 comes back. */
-cut_reading journal_read(const uint8_t *bytes, size_t size);
+cut_reading cut_journal_read(const uint8_t *bytes, size_t size);
 
 /* Reads a journal and writes its recording. Refused with: reading's numbers, then 12, 13, 14. */
-cut_written journal_record(const uint8_t *bytes, size_t size, uint8_t *out, size_t room);
+cut_written cut_journal_record(const uint8_t *bytes, size_t size, uint8_t *out, size_t room);
 
 /* Opens a site of `count` zones with their n stocks. Refused with: 2 the count is not 2 to 8; 3 n is not the count; 4 the stocks sum to more
- * than 65,535. Then *run is as it was; site_open itself hands back a run of 2 zones with stock 0. */
+ * than 65,535. Then *run is as it was; cut_site_open itself hands back a run of 2 zones with stock 0. */
 static inline uint8_t cut_open(cut_run *run, uint8_t count, const uint16_t *stocks, size_t n)
 {
-    cut_answer a = site_open(count, stocks, n);
+    cut_answer a = cut_site_open(count, stocks, n);
     if (a.refusal == 0)
         *run = a.run;
     return a.refusal;
@@ -129,7 +129,7 @@ static inline uint8_t cut_open(cut_run *run, uint8_t count, const uint16_t *stoc
  * there are 1,000 records; 7 the sender's stock does not cover the cars; 8 the line is full. */
 static inline uint8_t cut_send(cut_run *run, uint8_t from, uint8_t to, uint8_t cars)
 {
-    cut_head_answer t = site_send(run->head, run->items, run->lens, run->journal, from, to, cars);
+    cut_head_answer t = cut_site_send(run->head, run->items, run->lens, run->journal, from, to, cars);
     if (t.refusal == 0)
         run->head = t.head;
     return t.refusal;
@@ -139,7 +139,7 @@ static inline uint8_t cut_send(cut_run *run, uint8_t from, uint8_t to, uint8_t c
  * is full. */
 static inline uint8_t cut_receive(cut_run *run, uint8_t from, uint8_t to)
 {
-    cut_head_answer t = site_receive(run->head, run->items, run->lens, run->journal, from, to);
+    cut_head_answer t = cut_site_receive(run->head, run->items, run->lens, run->journal, from, to);
     if (t.refusal == 0)
         run->head = t.head;
     return t.refusal;
@@ -148,23 +148,23 @@ static inline uint8_t cut_receive(cut_run *run, uint8_t from, uint8_t to)
 /* Starts the recording at a zone. Refused with: 1; 5; 6; 11 a recording has been started; 10. */
 static inline uint8_t cut_start(cut_run *run, uint8_t zone)
 {
-    cut_head_answer t = site_start(run->head, run->items, run->lens, run->journal, zone);
+    cut_head_answer t = cut_site_start(run->head, run->items, run->lens, run->journal, zone);
     if (t.refusal == 0)
         run->head = t.head;
     return t.refusal;
 }
 
 /* Writes the recording. Refused with: 1, also where the run is not what its journal replays to; 12 no recording was started; 13 a request is
- * still on a line; 14 too few bytes are lent. It and journal_record use up to 48 KB of stack. */
+ * still on a line; 14 too few bytes are lent. It and cut_journal_record use up to 48 KB of stack. */
 static inline cut_written cut_record(const cut_run *run, uint8_t *out, size_t size)
 {
-    return site_record(run->head, run->items, run->lens, run->journal, out, size);
+    return cut_site_record(run->head, run->items, run->lens, run->journal, out, size);
 }
 
 /* Writes the run's journal. Refused with: 1 as above; 14. */
 static inline cut_written cut_write(const cut_run *run, uint8_t *out, size_t size)
 {
-    return journal_write(run->head, run->items, run->lens, run->journal, out, size);
+    return cut_journal_write(run->head, run->items, run->lens, run->journal, out, size);
 }
 
 #endif

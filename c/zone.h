@@ -4,10 +4,10 @@
  * A controller keeps one cut_zone, passes it to each call by value and stores the zone of the answer:
  *
  *     static cut_zone zone;
- *     cut_opening o = zone_open(count, number, stock);
+ *     cut_opening o = cut_zone_open(count, number, stock);
  *     if (o.refusal == 0)
  *         zone = o.zone;
- *     cut_step r = zone_send(zone, to, cars);
+ *     cut_step r = cut_zone_send(zone, to, cars);
  *     zone = r.zone;
  *
  * refusal is 0, or the number of the first reason in the call's list, from left to right, for which it was refused; then a step's zone
@@ -62,27 +62,27 @@ _Static_assert(sizeof(cut_opening) == 14 && sizeof(cut_step) == 16, "the layout 
 
 /* Opens zone `number` of `count`. Refused with: 2 the count is not 2 to 8; 5 the number is not 1 to count. Then zone 1 of 2 with stock 0
  * comes back. */
-cut_opening zone_open(uint8_t count, uint8_t number, uint16_t stock);
+cut_opening cut_zone_open(uint8_t count, uint8_t number, uint16_t stock);
 
 /* Hands over `cars` to zone `to`: put them on the line with the answer's flag. Refused with: 1 the zone is not sound; 5 `to` is not on the
  * site or is the zone itself; 6 it has 1,000 own events; 7 its stock does not cover the cars. */
-cut_step zone_send(cut_zone zone, uint8_t to, uint8_t cars);
+cut_step cut_zone_send(cut_zone zone, uint8_t to, uint8_t cars);
 
 /* Takes a hand-over from zone `from`; any flag but 0 counts as 1. Refused with: 1; 5 `from` is not on the site or is the zone itself; 6;
  * 20 the stock would exceed 65,535. Then keep the item first on its line. */
-cut_step zone_receive(cut_zone zone, uint8_t from, uint8_t cars, uint8_t flag);
+cut_step cut_zone_receive(cut_zone zone, uint8_t from, uint8_t cars, uint8_t flag);
 
 /* Takes a request with its set: send a request carrying `carried` to each zone of `to`. Refused with: 1; 5 the set names a zone off the
  * site. */
-cut_step zone_request(cut_zone zone, uint8_t set);
+cut_step cut_zone_request(cut_zone zone, uint8_t set);
 
 /* Starts a recording: send a request carrying `carried` to each zone of `to`. Refused with: 1; 11 the zone has a mark. */
-cut_step zone_start(cut_zone zone);
+cut_step cut_zone_start(cut_zone zone);
 
 /* The number of zones of a set, so of the requests to be sent to it. */
-uint32_t zone_requests(uint8_t to);
+uint32_t cut_zone_requests(uint8_t to);
 
 /* The lowest zone of a set, the one to be sent to next; 0 where the set is empty. Take it out with set &= set - 1 and go on. */
-uint8_t zone_next(uint8_t set);
+uint8_t cut_zone_next(uint8_t set);
 
 #endif

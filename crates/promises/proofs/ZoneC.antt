@@ -1,4 +1,4 @@
--- What the zone part for C (c/zone.h) promises, for every byte pattern of the structs.
+-- What the zone part for C (c/cut/zone.h) promises, for every byte pattern of the structs.
 use mathlib.Core.Path.{_≡_}
 use Rattle.rules.specs.Sets.{size}
 use Rattle.zone.specs.Zone.{nextTarget}
@@ -6,23 +6,23 @@ use Rattle.zone_c.specs.Plain.{openPlain, sendPlain, receivePlain, requestPlain
 use Rattle.zone_c.proofs as part
 use Rattle.promises.specs.Promise.{Keeps}
 
-pub zone-open : Keeps part.zone_open.ended part.zone_open.Symbol.routine (λ _ count number stock r. r ≡ openPlain count number stock)
-zone-open _ = part.zone_open.Met.met
+pub cut-zone-open : Keeps part.cut_zone_open.ended part.cut_zone_open.Symbol.routine (λ _ count number stock r. r ≡ openPlain count number stock)
+cut-zone-open _ = part.cut_zone_open.Met.met
 
-pub zone-send : Keeps part.zone_send.ended part.zone_send.Symbol.routine (λ _ zone to cars r. r ≡ sendPlain zone to cars)
-zone-send _ = part.zone_send.Met.met
+pub cut-zone-send : Keeps part.cut_zone_send.ended part.cut_zone_send.Symbol.routine (λ _ zone to cars r. r ≡ sendPlain zone to cars)
+cut-zone-send _ = part.cut_zone_send.Met.met
 
-pub zone-receive : Keeps part.zone_receive.ended part.zone_receive.Symbol.routine (λ _ zone from cars flag r. r ≡ receivePlain zone from cars flag)
-zone-receive _ = part.zone_receive.Met.met
+pub cut-zone-receive : Keeps part.cut_zone_receive.ended part.cut_zone_receive.Symbol.routine (λ _ zone from cars flag r. r ≡ receivePlain zone from cars flag)
+cut-zone-receive _ = part.cut_zone_receive.Met.met
 
-pub zone-request : Keeps part.zone_request.ended part.zone_request.Symbol.routine (λ _ zone set r. r ≡ requestPlain zone set)
-zone-request _ = part.zone_request.Met.met
+pub cut-zone-request : Keeps part.cut_zone_request.ended part.cut_zone_request.Symbol.routine (λ _ zone set r. r ≡ requestPlain zone set)
+cut-zone-request _ = part.cut_zone_request.Met.met
 
-pub zone-start : Keeps part.zone_start.ended part.zone_start.Symbol.routine (λ _ zone r. r ≡ startPlain zone)
-zone-start _ = part.zone_start.Met.met
+pub cut-zone-start : Keeps part.cut_zone_start.ended part.cut_zone_start.Symbol.routine (λ _ zone r. r ≡ startPlain zone)
+cut-zone-start _ = part.cut_zone_start.Met.met
 
-pub zone-requests : Keeps part.zone_requests.ended part.zone_requests.Symbol.routine (λ _ to r. r ≡ size to)
-zone-requests _ = part.zone_requests.Met.met
+pub cut-zone-requests : Keeps part.cut_zone_requests.ended part.cut_zone_requests.Symbol.routine (λ _ to r. r ≡ size to)
+cut-zone-requests _ = part.cut_zone_requests.Met.met
 
-pub zone-next : Keeps part.zone_next.ended part.zone_next.Symbol.routine (λ _ set r. r ≡ nextTarget set)
-zone-next _ = part.zone_next.Met.met
+pub cut-zone-next : Keeps part.cut_zone_next.ended part.cut_zone_next.Symbol.routine (λ _ set r. r ≡ nextTarget set)
+cut-zone-next _ = part.cut_zone_next.Met.met

@@ -27,7 +27,7 @@ after-plain [] z = refl
 after-plain (c ∷ cs) z =
     ap (λ (s : PlainStep). afterPlain cs (s .zone)) (call-plain c z) ∙ after-plain cs (answer c z .zone)
 
--- From what `zone_open` answers on, a refused opening included, whatever the calls: C is answered the refusals, flags and sets that the
+-- From what `cut_zone_open` answers on, a refused opening included, whatever the calls: C is answered the refusals, flags and sets that the
 -- zone part answers, and its struct stands for the zone part's zone.
 module _ (count number stock : ℕ) (cs : List ZoneCall) where
   pub opened-answers : answersPlain cs (openPlain count number stock .zone) ≡ map plainStep (answers cs (openZone count number stock .zone))

@@ -1,4 +1,4 @@
-// The zone part for C: the same steps over a plain struct, since an enum is not exported. The header is c/zone.h. A mark kind above 2 is
+// The zone part for C: the same steps over a plain struct, since an enum is not exported. The header is c/cut/zone.h. A mark kind above 2 is
 // unsound and meets 1; a refused struct comes back equal in every field.
 ghost use mathlib.Core.Path.{_≡_};
 ghost use Rattle.rules.specs.Sets.{size};
@@ -181,7 +181,7 @@ fn answer(p: PlainZone, s: Step) -> PlainStep
 
 // Opening one zone.
 #[no_mangle]
-pub extern "C" fn zone_open(count: u8, number: u8, stock: u16) -> PlainOpening
+pub extern "C" fn cut_zone_open(count: u8, number: u8, stock: u16) -> PlainOpening
     ensures { λ r. ⌜ r ≡ openPlain count number stock ⌝ }
 {
     let opened = Zone::open(count, number, stock);
@@ -195,7 +195,7 @@ pub extern "C" fn zone_open(count: u8, number: u8, stock: u16) -> PlainOpening
 
 // A message ("hand-over") of some cars is sent to another zone.
 #[no_mangle]
-pub extern "C" fn zone_send(p: PlainZone, to: u8, cars: u8) -> PlainStep
+pub extern "C" fn cut_zone_send(p: PlainZone, to: u8, cars: u8) -> PlainStep
     ensures { λ r. ⌜ r ≡ sendPlain p to cars ⌝ }
 {
     if 2 < p.mark {
@@ -206,7 +206,7 @@ pub extern "C" fn zone_send(p: PlainZone, to: u8, cars: u8) -> PlainStep
 
 // A message ("hand-over") is received from another zone; any flag but 0 counts as 1.
 #[no_mangle]
-pub extern "C" fn zone_receive(p: PlainZone, from: u8, cars: u8, flag: u8) -> PlainStep
+pub extern "C" fn cut_zone_receive(p: PlainZone, from: u8, cars: u8, flag: u8) -> PlainStep
     ensures { λ r. ⌜ r ≡ receivePlain p from cars flag ⌝ }
 {
     if 2 < p.mark {
@@ -217,7 +217,7 @@ pub extern "C" fn zone_receive(p: PlainZone, from: u8, cars: u8, flag: u8) -> Pl
 
 // A request with its set is received.
 #[no_mangle]
-pub extern "C" fn zone_request(p: PlainZone, set: u8) -> PlainStep
+pub extern "C" fn cut_zone_request(p: PlainZone, set: u8) -> PlainStep
     ensures { λ r. ⌜ r ≡ requestPlain p set ⌝ }
 {
     if 2 < p.mark {
@@ -228,7 +228,7 @@ pub extern "C" fn zone_request(p: PlainZone, set: u8) -> PlainStep
 
 // A recording is started by this zone.
 #[no_mangle]
-pub extern "C" fn zone_start(p: PlainZone) -> PlainStep
+pub extern "C" fn cut_zone_start(p: PlainZone) -> PlainStep
     ensures { λ r. ⌜ r ≡ startPlain p ⌝ }
 {
     if 2 < p.mark {
@@ -239,7 +239,7 @@ pub extern "C" fn zone_start(p: PlainZone) -> PlainStep
 
 // The number of requests to be sent to the zones of a set.
 #[no_mangle]
-pub extern "C" fn zone_requests(to: u8) -> u32
+pub extern "C" fn cut_zone_requests(to: u8) -> u32
     ensures { λ r. ⌜ r ≡ size to ⌝ }
 {
     zone::requests(to)
@@ -247,7 +247,7 @@ pub extern "C" fn zone_requests(to: u8) -> u32
 
 // The number of the zone to be sent to next of a set; 0 where it is empty.
 #[no_mangle]
-pub extern "C" fn zone_next(set: u8) -> u8
+pub extern "C" fn cut_zone_next(set: u8) -> u8
     ensures { λ r. ⌜ r ≡ nextTarget set ⌝ }
 {
     zone::next_of(set)

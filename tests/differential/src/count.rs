@@ -24,21 +24,24 @@ pub enum Entry {
 
 /// Each call, in the order of `Entry`, with the numbers that document 01 lets it give.
 pub const ENTRIES: [(&str, &[u8]); 15] = [
-    ("site_open", &[0, 2, 3, 4]),
-    ("site_send", &[0, 1, 5, 6, 7, 8]),
-    ("site_receive", &[0, 1, 5, 6, 9, 10]),
-    ("site_start", &[0, 1, 5, 6, 11, 10]),
-    ("site_record", &[0, 1, 12, 13, 14]),
-    ("journal_write", &[0, 1, 14]),
-    ("journal_read", &[0, 15, 16, 17, 4, 18, 19]),
-    ("journal_record", &[0, 15, 16, 17, 4, 18, 19, 12, 13, 14]),
-    ("zone_open", &[0, 2, 5]),
-    ("zone_send", &[0, 1, 5, 6, 7]),
-    ("zone_receive", &[0, 1, 5, 6, 20]),
-    ("zone_request", &[0, 1, 5]),
-    ("zone_start", &[0, 1, 11]),
-    ("zone_requests", &[0]),
-    ("zone_next", &[0]),
+    ("cut_site_open", &[0, 2, 3, 4]),
+    ("cut_site_send", &[0, 1, 5, 6, 7, 8]),
+    ("cut_site_receive", &[0, 1, 5, 6, 9, 10]),
+    ("cut_site_start", &[0, 1, 5, 6, 11, 10]),
+    ("cut_site_record", &[0, 1, 12, 13, 14]),
+    ("cut_journal_write", &[0, 1, 14]),
+    ("cut_journal_read", &[0, 15, 16, 17, 4, 18, 19]),
+    (
+        "cut_journal_record",
+        &[0, 15, 16, 17, 4, 18, 19, 12, 13, 14],
+    ),
+    ("cut_zone_open", &[0, 2, 5]),
+    ("cut_zone_send", &[0, 1, 5, 6, 7]),
+    ("cut_zone_receive", &[0, 1, 5, 6, 20]),
+    ("cut_zone_request", &[0, 1, 5]),
+    ("cut_zone_start", &[0, 1, 11]),
+    ("cut_zone_requests", &[0]),
+    ("cut_zone_next", &[0]),
 ];
 
 /// How often each number of each call must be met.

@@ -22,9 +22,11 @@ fn zone(zone: u32) -> u8 {
 pub fn proved(p: &PlainRun, call: Call) -> PlainAnswer {
     let mut run = *p;
     let refusal = match call {
-        Call::HandOver { from, to, cars } => ffi::site_send(&mut run, zone(from), zone(to), cars),
-        Call::Receipt { from, to } => ffi::site_receive(&mut run, zone(from), zone(to)),
-        Call::Start { zone: starter } => ffi::site_start(&mut run, zone(starter)),
+        Call::HandOver { from, to, cars } => {
+            ffi::cut_site_send(&mut run, zone(from), zone(to), cars)
+        }
+        Call::Receipt { from, to } => ffi::cut_site_receive(&mut run, zone(from), zone(to)),
+        Call::Start { zone: starter } => ffi::cut_site_start(&mut run, zone(starter)),
     };
     PlainAnswer { refusal, run }
 }
@@ -94,7 +96,7 @@ pub fn journal(run: Option<&Run>) -> Made {
     made(run, journal::write)
 }
 
-/// What journal_record makes of a reading.
+/// What cut_journal_record makes of a reading.
 pub fn recorded(reading: &journal::Reading) -> Made {
     match reading.refusal {
         0 => recording(Some(&reading.run)),

@@ -138,15 +138,15 @@ mod raw {
     use super::*;
 
     extern "C" {
-        pub fn zone_open(count: u8, number: u8, stock: u16) -> PlainOpening;
-        pub fn zone_send(zone: PlainZone, to: u8, cars: u8) -> PlainStep;
-        pub fn zone_receive(zone: PlainZone, from: u8, cars: u8, flag: u8) -> PlainStep;
-        pub fn zone_request(zone: PlainZone, set: u8) -> PlainStep;
-        pub fn zone_start(zone: PlainZone) -> PlainStep;
-        pub fn zone_requests(to: u8) -> u32;
-        pub fn zone_next(set: u8) -> u8;
-        pub fn site_open(count: u8, stocks: *const u16, n: usize) -> PlainAnswer;
-        pub fn site_send(
+        pub fn cut_zone_open(count: u8, number: u8, stock: u16) -> PlainOpening;
+        pub fn cut_zone_send(zone: PlainZone, to: u8, cars: u8) -> PlainStep;
+        pub fn cut_zone_receive(zone: PlainZone, from: u8, cars: u8, flag: u8) -> PlainStep;
+        pub fn cut_zone_request(zone: PlainZone, set: u8) -> PlainStep;
+        pub fn cut_zone_start(zone: PlainZone) -> PlainStep;
+        pub fn cut_zone_requests(to: u8) -> u32;
+        pub fn cut_zone_next(set: u8) -> u8;
+        pub fn cut_site_open(count: u8, stocks: *const u16, n: usize) -> PlainAnswer;
+        pub fn cut_site_send(
             head: PlainHead,
             items: *mut u16,
             lens: *mut u8,
@@ -155,7 +155,7 @@ mod raw {
             to: u8,
             cars: u8,
         ) -> PlainHeadAnswer;
-        pub fn site_receive(
+        pub fn cut_site_receive(
             head: PlainHead,
             items: *mut u16,
             lens: *mut u8,
@@ -163,14 +163,14 @@ mod raw {
             from: u8,
             to: u8,
         ) -> PlainHeadAnswer;
-        pub fn site_start(
+        pub fn cut_site_start(
             head: PlainHead,
             items: *mut u16,
             lens: *mut u8,
             journal: *mut u16,
             zone: u8,
         ) -> PlainHeadAnswer;
-        pub fn site_record(
+        pub fn cut_site_record(
             head: PlainHead,
             items: *const u16,
             lens: *const u8,
@@ -178,7 +178,7 @@ mod raw {
             out: *mut u8,
             size: usize,
         ) -> PlainWritten;
-        pub fn journal_write(
+        pub fn cut_journal_write(
             head: PlainHead,
             items: *const u16,
             lens: *const u8,
@@ -186,8 +186,8 @@ mod raw {
             out: *mut u8,
             size: usize,
         ) -> PlainWritten;
-        pub fn journal_read(bytes: *const u8, size: usize) -> PlainReading;
-        pub fn journal_record(
+        pub fn cut_journal_read(bytes: *const u8, size: usize) -> PlainReading;
+        pub fn cut_journal_record(
             bytes: *const u8,
             size: usize,
             out: *mut u8,
@@ -199,36 +199,36 @@ mod raw {
 // Every value of every field may be passed, so the calls with values alone are safe. The others
 // get a pointer and a length of one slice, and Rust keeps a mutable one apart from all else.
 
-pub fn zone_open(count: u8, number: u8, stock: u16) -> PlainOpening {
-    unsafe { raw::zone_open(count, number, stock) }
+pub fn cut_zone_open(count: u8, number: u8, stock: u16) -> PlainOpening {
+    unsafe { raw::cut_zone_open(count, number, stock) }
 }
 
-pub fn zone_send(zone: PlainZone, to: u8, cars: u8) -> PlainStep {
-    unsafe { raw::zone_send(zone, to, cars) }
+pub fn cut_zone_send(zone: PlainZone, to: u8, cars: u8) -> PlainStep {
+    unsafe { raw::cut_zone_send(zone, to, cars) }
 }
 
-pub fn zone_receive(zone: PlainZone, from: u8, cars: u8, flag: u8) -> PlainStep {
-    unsafe { raw::zone_receive(zone, from, cars, flag) }
+pub fn cut_zone_receive(zone: PlainZone, from: u8, cars: u8, flag: u8) -> PlainStep {
+    unsafe { raw::cut_zone_receive(zone, from, cars, flag) }
 }
 
-pub fn zone_request(zone: PlainZone, set: u8) -> PlainStep {
-    unsafe { raw::zone_request(zone, set) }
+pub fn cut_zone_request(zone: PlainZone, set: u8) -> PlainStep {
+    unsafe { raw::cut_zone_request(zone, set) }
 }
 
-pub fn zone_start(zone: PlainZone) -> PlainStep {
-    unsafe { raw::zone_start(zone) }
+pub fn cut_zone_start(zone: PlainZone) -> PlainStep {
+    unsafe { raw::cut_zone_start(zone) }
 }
 
-pub fn zone_requests(to: u8) -> u32 {
-    unsafe { raw::zone_requests(to) }
+pub fn cut_zone_requests(to: u8) -> u32 {
+    unsafe { raw::cut_zone_requests(to) }
 }
 
-pub fn zone_next(set: u8) -> u8 {
-    unsafe { raw::zone_next(set) }
+pub fn cut_zone_next(set: u8) -> u8 {
+    unsafe { raw::cut_zone_next(set) }
 }
 
-pub fn site_open(count: u8, stocks: &[u16]) -> PlainAnswer {
-    unsafe { raw::site_open(count, stocks.as_ptr(), stocks.len()) }
+pub fn cut_site_open(count: u8, stocks: &[u16]) -> PlainAnswer {
+    unsafe { raw::cut_site_open(count, stocks.as_ptr(), stocks.len()) }
 }
 
 /// The arrays of a run, to be lent.
@@ -242,28 +242,28 @@ macro_rules! lent {
     };
 }
 
-pub fn site_send(run: &mut PlainRun, from: u8, to: u8, cars: u8) -> u8 {
+pub fn cut_site_send(run: &mut PlainRun, from: u8, to: u8, cars: u8) -> u8 {
     let (items, lens, journal) = lent!(run);
-    let answer = unsafe { raw::site_send(run.head(), items, lens, journal, from, to, cars) };
+    let answer = unsafe { raw::cut_site_send(run.head(), items, lens, journal, from, to, cars) };
     run.store(answer)
 }
 
-pub fn site_receive(run: &mut PlainRun, from: u8, to: u8) -> u8 {
+pub fn cut_site_receive(run: &mut PlainRun, from: u8, to: u8) -> u8 {
     let (items, lens, journal) = lent!(run);
-    let answer = unsafe { raw::site_receive(run.head(), items, lens, journal, from, to) };
+    let answer = unsafe { raw::cut_site_receive(run.head(), items, lens, journal, from, to) };
     run.store(answer)
 }
 
-pub fn site_start(run: &mut PlainRun, zone: u8) -> u8 {
+pub fn cut_site_start(run: &mut PlainRun, zone: u8) -> u8 {
     let (items, lens, journal) = lent!(run);
-    let answer = unsafe { raw::site_start(run.head(), items, lens, journal, zone) };
+    let answer = unsafe { raw::cut_site_start(run.head(), items, lens, journal, zone) };
     run.store(answer)
 }
 
-pub fn site_record(run: &PlainRun, out: &mut [u8]) -> PlainWritten {
+pub fn cut_site_record(run: &PlainRun, out: &mut [u8]) -> PlainWritten {
     let (items, lens, journal) = (run.items.as_ptr(), run.lens.as_ptr(), run.journal.as_ptr());
     unsafe {
-        raw::site_record(
+        raw::cut_site_record(
             run.head(),
             items,
             lens,
@@ -274,10 +274,10 @@ pub fn site_record(run: &PlainRun, out: &mut [u8]) -> PlainWritten {
     }
 }
 
-pub fn journal_write(run: &PlainRun, out: &mut [u8]) -> PlainWritten {
+pub fn cut_journal_write(run: &PlainRun, out: &mut [u8]) -> PlainWritten {
     let (items, lens, journal) = (run.items.as_ptr(), run.lens.as_ptr(), run.journal.as_ptr());
     unsafe {
-        raw::journal_write(
+        raw::cut_journal_write(
             run.head(),
             items,
             lens,
@@ -288,10 +288,10 @@ pub fn journal_write(run: &PlainRun, out: &mut [u8]) -> PlainWritten {
     }
 }
 
-pub fn journal_read(bytes: &[u8]) -> PlainReading {
-    unsafe { raw::journal_read(bytes.as_ptr(), bytes.len()) }
+pub fn cut_journal_read(bytes: &[u8]) -> PlainReading {
+    unsafe { raw::cut_journal_read(bytes.as_ptr(), bytes.len()) }
 }
 
-pub fn journal_record(bytes: &[u8], out: &mut [u8]) -> PlainWritten {
-    unsafe { raw::journal_record(bytes.as_ptr(), bytes.len(), out.as_mut_ptr(), out.len()) }
+pub fn cut_journal_record(bytes: &[u8], out: &mut [u8]) -> PlainWritten {
+    unsafe { raw::cut_journal_record(bytes.as_ptr(), bytes.len(), out.as_mut_ptr(), out.len()) }
 }

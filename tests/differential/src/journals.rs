@@ -37,12 +37,12 @@ fn check(counts: &mut Counts, random: &mut Random, bytes: &[u8]) -> Result<(), F
 
 fn read(counts: &mut Counts, random: &mut Random, bytes: &[u8]) -> Result<(), Found> {
     let reading = journal::read(bytes);
-    let proved = ffi::journal_read(bytes);
+    let proved = ffi::cut_journal_read(bytes);
     counts.same(Entry::JournalRead, &expect::reading(&reading), &proved)?;
     let recording = expect::recorded(&reading);
     for lent in recording.lents(random) {
         let expected = recording.output(&lent);
-        let proved = expect::written(&lent, |out| ffi::journal_record(bytes, out));
+        let proved = expect::written(&lent, |out| ffi::cut_journal_record(bytes, out));
         counts.same(Entry::JournalRecord, &expected, &proved)?;
     }
     if reading.refusal == 0 {

@@ -35,10 +35,10 @@ pub fn open(counts: &mut Counts, count: u8, stocks: &[u16]) -> Result<(Run, Plai
         refusal: expect::number(refusal),
         run: plain::plain_run(&run),
     };
-    let proved = ffi::site_open(count, stocks);
+    let proved = ffi::cut_site_open(count, stocks);
     let compared = counts.same(Entry::SiteOpen, &expected, &proved);
     let compared = compared.and_then(|()| open_by_header(counts, count, stocks, &expected));
-    let call = || format!("site_open({count}, {stocks:?})");
+    let call = || format!("cut_site_open({count}, {stocks:?})");
     compared.map_err(|found| Failure::new(String::new(), call(), found))?;
     Ok((run, proved.run))
 }
@@ -99,13 +99,13 @@ pub fn writers(
     journal: &Made,
 ) -> Result<(), Found> {
     for lent in recording.lents(random) {
-        let proved = expect::written(&lent, |out| ffi::site_record(p, out));
+        let proved = expect::written(&lent, |out| ffi::cut_site_record(p, out));
         counts.same(Entry::SiteRecord, &recording.output(&lent), &proved)?;
         let by_header = expect::written(&lent, |out| header::record(p, out));
         counts.equal(Entry::SiteRecord, &proved, &by_header)?;
     }
     for lent in journal.lents(random) {
-        let proved = expect::written(&lent, |out| ffi::journal_write(p, out));
+        let proved = expect::written(&lent, |out| ffi::cut_journal_write(p, out));
         counts.same(Entry::JournalWrite, &journal.output(&lent), &proved)?;
         let by_header = expect::written(&lent, |out| header::write(p, out));
         counts.equal(Entry::JournalWrite, &proved, &by_header)?;
@@ -134,7 +134,7 @@ impl<'a> Pair<'a> {
     }
 
     fn failure(&self, call: String, found: Found) -> Failure {
-        let opening = format!("  site_open with stocks {:?} -> 0\n", self.opening);
+        let opening = format!("  cut_site_open with stocks {:?} -> 0\n", self.opening);
         Failure::new(opening + &text::calls(&self.calls), call, found)
     }
 
@@ -198,17 +198,17 @@ impl<'a> Pair<'a> {
 
         // The journal that was written reads back as the same run and has the same recording.
         let mut bytes = vec![0; journal.bytes.len()];
-        ffi::journal_write(&self.plain, &mut bytes);
+        ffi::cut_journal_write(&self.plain, &mut bytes);
         let expected = PlainReading {
             refusal: 0,
             position: 0,
             run: self.plain,
         };
-        let proved = ffi::journal_read(&bytes);
+        let proved = ffi::cut_journal_read(&bytes);
         self.counts.same(Entry::JournalRead, &expected, &proved)?;
         for lent in recording.lents(random) {
             let expected = recording.output(&lent);
-            let proved = expect::written(&lent, |out| ffi::journal_record(&bytes, out));
+            let proved = expect::written(&lent, |out| ffi::cut_journal_record(&bytes, out));
             self.counts.same(Entry::JournalRecord, &expected, &proved)?;
         }
         self.demand_3()
@@ -217,7 +217,7 @@ impl<'a> Pair<'a> {
     /// Checks demand 3 on nothing but what the proved code showed.
     fn demand_3(&mut self) -> Result<(), Found> {
         let mut bytes = [0; 2_034];
-        let answer = ffi::site_record(&self.plain, &mut bytes);
+        let answer = ffi::cut_site_record(&self.plain, &mut bytes);
         let zones = self.opening.len();
         let seen = Seen {
             opening: self.opening.clone(),

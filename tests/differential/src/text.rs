@@ -6,9 +6,9 @@ use std::fmt::Write;
 
 pub fn call(call: Call) -> String {
     match call {
-        Call::HandOver { from, to, cars } => format!("site_send({from}, {to}, {cars})"),
-        Call::Receipt { from, to } => format!("site_receive({from}, {to})"),
-        Call::Start { zone } => format!("site_start({zone})"),
+        Call::HandOver { from, to, cars } => format!("cut_site_send({from}, {to}, {cars})"),
+        Call::Receipt { from, to } => format!("cut_site_receive({from}, {to})"),
+        Call::Start { zone } => format!("cut_site_start({zone})"),
     }
 }
 

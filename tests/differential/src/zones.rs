@@ -29,10 +29,10 @@ impl Step {
 
     fn proved(self, p: PlainZone) -> PlainStep {
         match self {
-            Step::Send { to, cars } => ffi::zone_send(p, to, cars),
-            Step::Receive { from, cars, flag } => ffi::zone_receive(p, from, cars, flag),
-            Step::Request { set } => ffi::zone_request(p, set),
-            Step::Start => ffi::zone_start(p),
+            Step::Send { to, cars } => ffi::cut_zone_send(p, to, cars),
+            Step::Receive { from, cars, flag } => ffi::cut_zone_receive(p, from, cars, flag),
+            Step::Request { set } => ffi::cut_zone_request(p, set),
+            Step::Start => ffi::cut_zone_start(p),
         }
     }
 
@@ -80,9 +80,9 @@ fn open(counts: &mut Counts, count: u8, own: u8, stock: u16) -> Result<PlainZone
         zone: plain::plain_zone(&zone),
         refusal: number(refusal),
     };
-    let proved = ffi::zone_open(count, own, stock);
+    let proved = ffi::cut_zone_open(count, own, stock);
     let compared = counts.same(Entry::ZoneOpen, &expected, &proved);
-    let call = || format!("zone_open({count}, {own}, {stock})");
+    let call = || format!("cut_zone_open({count}, {own}, {stock})");
     compared.map_err(|found| Failure::new(String::new(), call(), found))?;
     Ok(proved.zone)
 }
@@ -101,9 +101,14 @@ fn sets(counts: &mut Counts, set: u8) -> Result<(), Found> {
         .filter(|zone| set & zone::only(*zone) != 0)
         .collect();
     let size = zones.len() as u32;
-    same(counts, Entry::ZoneRequests, size, ffi::zone_requests(set))?;
+    same(
+        counts,
+        Entry::ZoneRequests,
+        size,
+        ffi::cut_zone_requests(set),
+    )?;
     let lowest = zones.first().copied().unwrap_or(0);
-    let next = u32::from(ffi::zone_next(set));
+    let next = u32::from(ffi::cut_zone_next(set));
     same(counts, Entry::ZoneNext, lowest, next)
 }
 

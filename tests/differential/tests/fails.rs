@@ -17,7 +17,7 @@ const SEND: Call = Call::HandOver {
 
 /// A run of three zones with 10, 20 and 30 cars, as the proved code opens it.
 fn opened() -> PlainRun {
-    let answer = ffi::site_open(3, &[10, 20, 30]);
+    let answer = ffi::cut_site_open(3, &[10, 20, 30]);
     assert_eq!(answer.refusal, 0);
     answer.run
 }
@@ -84,7 +84,7 @@ fn a_change_in_unused_storage_is_found() {
 
 #[test]
 fn a_wrong_answer_of_the_reader_is_found() {
-    let right: PlainReading = ffi::journal_read(&[0x24, 0x01, 0, 1, 0, 1, 0xC0, 0]);
+    let right: PlainReading = ffi::cut_journal_read(&[0x24, 0x01, 0, 1, 0, 1, 0xC0, 0]);
     assert_eq!((right.refusal, right.position), (18, 0));
     assert_eq!(field(&right, |reading| reading.position = 1), "position");
     assert_eq!(field(&right, |reading| reading.refusal = 19), "refusal");
@@ -97,7 +97,7 @@ fn recorded() -> (Made, Output) {
     let journal = bytes_of(&case_b());
     let made = expect::recording(Some(&case_b()));
     let lent = vec![7; made.bytes.len() + 5];
-    let output = expect::written(&lent, |out| ffi::journal_record(&journal, out));
+    let output = expect::written(&lent, |out| ffi::cut_journal_record(&journal, out));
     assert_eq!(made.output(&lent).check(&output), Ok(()));
     (made, output)
 }
@@ -126,11 +126,11 @@ fn a_wrong_answer_of_a_writer_is_found() {
 
 #[test]
 fn a_wrong_answer_of_a_zone_is_found() {
-    let opened = ffi::zone_open(3, 1, 10);
+    let opened = ffi::cut_zone_open(3, 1, 10);
     assert_eq!(field(&opened, |answer| answer.zone.stock = 9), "zone.stock");
     assert_eq!(field(&opened, |answer| answer.refusal = 2), "refusal");
-    let heard = ffi::zone_receive(opened.zone, 2, 1, 0);
-    let right = ffi::zone_start(heard.zone);
+    let heard = ffi::cut_zone_receive(opened.zone, 2, 1, 0);
+    let right = ffi::cut_zone_start(heard.zone);
     let field = |change: fn(&mut PlainStep)| field(&right, change);
     assert_eq!(field(|step| step.to = 0), "to");
     assert_eq!(field(|step| step.carried = 1), "carried");
@@ -184,7 +184,7 @@ fn a_missed_floor_is_reported() {
     counts.times[Entry::SiteStart as usize][10] -= 1;
     let missed = counts.missed();
     assert_eq!(missed.len(), 1);
-    assert!(missed[0].contains("site_start answering 10: 99 times"));
+    assert!(missed[0].contains("cut_site_start answering 10: 99 times"));
     counts.times[Entry::SiteStart as usize][10] += 1;
     counts.turned -= 1;
     assert!(counts.missed()[0].contains("turned firm: 999 times"));

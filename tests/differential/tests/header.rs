@@ -135,7 +135,7 @@ fn the_site_has_the_same_fields() {
 
 #[test]
 fn a_changed_field_changes_the_sum() {
-    let mut answer = ffi::site_open(3, &[10, 20, 30]);
+    let mut answer = ffi::cut_site_open(3, &[10, 20, 30]);
     let before = answer.sum();
     answer.run.zones[7].saved.events += 1;
     assert_ne!(answer.sum(), before);

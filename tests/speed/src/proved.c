@@ -10,7 +10,7 @@ uint8_t proved_open(cut_run *run, uint8_t count, const uint16_t *stocks, size_t 
 /* The opening itself, which hands back a run when it is refused too. */
 uint8_t proved_open_any(cut_run *run, uint8_t count, const uint16_t *stocks, size_t n)
 {
-    cut_answer a = site_open(count, stocks, n);
+    cut_answer a = cut_site_open(count, stocks, n);
     *run = a.run;
     return a.refusal;
 }
@@ -49,12 +49,12 @@ uint8_t proved_write(const cut_run *run, uint8_t *out, size_t size, size_t *posi
 
 uint8_t proved_read_record(const uint8_t *bytes, size_t n, uint8_t *out, size_t size, size_t *position, size_t *written)
 {
-    return told(journal_record(bytes, n, out, size), position, written);
+    return told(cut_journal_record(bytes, n, out, size), position, written);
 }
 
 uint8_t proved_read(const uint8_t *bytes, size_t n, cut_run *run, size_t *position)
 {
-    cut_reading r = journal_read(bytes, n);
+    cut_reading r = cut_journal_read(bytes, n);
     *run = r.run;
     *position = r.position;
     return r.refusal;
@@ -63,14 +63,14 @@ uint8_t proved_read(const uint8_t *bytes, size_t n, cut_run *run, size_t *positi
 /* A reading that is used where it is: nothing is copied out. */
 uint8_t proved_read_here(const uint8_t *bytes, size_t n)
 {
-    cut_reading r = journal_read(bytes, n);
+    cut_reading r = cut_journal_read(bytes, n);
     __asm__ volatile("" : : "r"(&r) : "memory");
     return r.refusal;
 }
 
 uint8_t proved_zone_open(cut_zone *zone, uint8_t count, uint8_t number, uint16_t stock)
 {
-    cut_opening o = zone_open(count, number, stock);
+    cut_opening o = cut_zone_open(count, number, stock);
     *zone = o.zone;
     return o.refusal;
 }
@@ -89,22 +89,22 @@ static uint8_t step(cut_zone *zone, step_told *told, cut_step s)
 
 uint8_t proved_zone_send(cut_zone *zone, step_told *told, uint8_t to, uint8_t cars)
 {
-    return step(zone, told, zone_send(*zone, to, cars));
+    return step(zone, told, cut_zone_send(*zone, to, cars));
 }
 
 uint8_t proved_zone_receive(cut_zone *zone, step_told *told, uint8_t from, uint8_t cars, uint8_t flag)
 {
-    return step(zone, told, zone_receive(*zone, from, cars, flag));
+    return step(zone, told, cut_zone_receive(*zone, from, cars, flag));
 }
 
 uint8_t proved_zone_request(cut_zone *zone, step_told *told, uint8_t set)
 {
-    return step(zone, told, zone_request(*zone, set));
+    return step(zone, told, cut_zone_request(*zone, set));
 }
 
 uint8_t proved_zone_start(cut_zone *zone, step_told *told)
 {
-    return step(zone, told, zone_start(*zone));
+    return step(zone, told, cut_zone_start(*zone));
 }
 
 /* Calls that do nothing: what measuring takes itself. */

@@ -7,8 +7,8 @@ use std::hint::black_box;
 
 /// The call of a name, on what a journal gives.
 pub fn call(name: &str, bytes: Vec<u8>) -> Option<Once> {
-    let run = ffi::journal_read(&bytes).run;
-    let zone = ffi::zone_open(run.count, 1, 100).zone;
+    let run = ffi::cut_journal_read(&bytes).run;
+    let zone = ffi::cut_zone_open(run.count, 1, 100).zone;
     on_run(name, run)
         .or_else(|| on_zone(name, zone))
         .or_else(|| on_bytes(name, bytes))
@@ -26,16 +26,16 @@ fn changed(run: PlainRun, call: fn(&mut PlainRun) -> u8) -> Once {
 fn on_run(name: &str, run: PlainRun) -> Option<Once> {
     let opened = move || {
         let stocks = &black_box(&run.opening)[..usize::from(run.count)];
-        u32::from(black_box(&ffi::site_open(run.count, stocks)).refusal)
+        u32::from(black_box(&ffi::cut_site_open(run.count, stocks)).refusal)
     };
     Some(match name {
         "copy" => changed(run, |_| 0),
         "open" => Box::new(opened),
-        "send" => changed(run, |copy| ffi::site_send(copy, 1, 2, 3)),
-        "receive" => changed(run, |copy| ffi::site_receive(copy, 1, 2)),
-        "start" => changed(run, |copy| ffi::site_start(copy, 1)),
-        "record" => writing(move |lent| ffi::site_record(black_box(&run), lent).refusal),
-        "write" => writing(move |lent| ffi::journal_write(black_box(&run), lent).refusal),
+        "send" => changed(run, |copy| ffi::cut_site_send(copy, 1, 2, 3)),
+        "receive" => changed(run, |copy| ffi::cut_site_receive(copy, 1, 2)),
+        "start" => changed(run, |copy| ffi::cut_site_start(copy, 1)),
+        "record" => writing(move |lent| ffi::cut_site_record(black_box(&run), lent).refusal),
+        "write" => writing(move |lent| ffi::cut_journal_write(black_box(&run), lent).refusal),
         _ => return None,
     })
 }
@@ -52,8 +52,8 @@ fn writing(write: impl Fn(&mut [u8]) -> u8 + 'static) -> Once {
 
 fn on_bytes(name: &str, bytes: Vec<u8>) -> Option<Once> {
     Some(match name {
-        "read" => Box::new(move || u32::from(black_box(&ffi::journal_read(&bytes)).refusal)),
-        "read-record" => writing(move |lent| ffi::journal_record(&bytes, lent).refusal),
+        "read" => Box::new(move || u32::from(black_box(&ffi::cut_journal_read(&bytes)).refusal)),
+        "read-record" => writing(move |lent| ffi::cut_journal_record(&bytes, lent).refusal),
         _ => return None,
     })
 }
@@ -63,15 +63,15 @@ fn on_zone(name: &str, zone: PlainZone) -> Option<Once> {
         Box::new(move || u32::from(black_box(&step(*black_box(&zone))).refusal))
     };
     let opened = move || {
-        let opening = ffi::zone_open(black_box(zone.count), 1, 100);
+        let opening = ffi::cut_zone_open(black_box(zone.count), 1, 100);
         u32::from(black_box(&opening).refusal)
     };
     Some(match name {
         "zone-open" => Box::new(opened),
-        "zone-send" => stepped(|zone| ffi::zone_send(zone, 2, 3)),
-        "zone-receive" => stepped(|zone| ffi::zone_receive(zone, 2, 3, 1)),
-        "zone-request" => stepped(|zone| ffi::zone_request(zone, 2)),
-        "zone-start" => stepped(ffi::zone_start),
+        "zone-send" => stepped(|zone| ffi::cut_zone_send(zone, 2, 3)),
+        "zone-receive" => stepped(|zone| ffi::cut_zone_receive(zone, 2, 3, 1)),
+        "zone-request" => stepped(|zone| ffi::cut_zone_request(zone, 2)),
+        "zone-start" => stepped(ffi::cut_zone_start),
         _ => return None,
     })
 }

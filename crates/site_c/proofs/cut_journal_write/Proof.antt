@@ -1,9 +1,9 @@
--- `site_c::journal_write` meets its contract.
+-- `site_c::cut_journal_write` meets its contract.
 use Rattle.rules.proofs.Tests.{no, yes}
 use Rattle.site_c.specs.Plain.{writePlain}
 use borrow.Author.Needs.{needs}
-use Rattle.site_c.proofs.journal_write.Statement.{statement}
-use Rattle.site_c.proofs.journal_write.Tie as tie
+use Rattle.site_c.proofs.cut_journal_write.Statement.{statement}
+use Rattle.site_c.proofs.cut_journal_write.Tie as tie
 
 are-kinds-requires : tie.Need-are-kinds-requires
 are-kinds-requires c κs = search needs
@@ -35,8 +35,8 @@ returns-2 c =
     let k = yes (r .before .before .are-kinds .ensures) (r .before .if1 .left) in
     (rw (k, c .written-of .ensures, w .write .ensures .0, r .run-of .ensures), rw (k, w .write .ensures .1, r .run-of .ensures))
 
-pub journal-write-spec : {M : Type 1} → statement M
-journal-write-spec =
+pub cut-journal-write-spec : {M : Type 1} → statement M
+cut-journal-write-spec =
     tie.close
     (tie.spec
     are-kinds-requires

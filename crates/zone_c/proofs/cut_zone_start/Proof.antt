@@ -1,9 +1,9 @@
--- `zone_c::zone_start` meets its contract.
+-- `zone_c::cut_zone_start` meets its contract.
 use borrow.Author.Tests.{lt-ltb, le-ltb}
 use Rattle.zone_c.specs.Plain.{startPlain}
 use borrow.Author.Needs.{needs}
-use Rattle.zone_c.proofs.zone_start.Statement.{statement}
-use Rattle.zone_c.proofs.zone_start.Tie as tie
+use Rattle.zone_c.proofs.cut_zone_start.Statement.{statement}
+use Rattle.zone_c.proofs.cut_zone_start.Tie as tie
 
 refused-requires : tie.Need-refused-requires
 refused-requires c κs = search needs
@@ -25,7 +25,7 @@ returns-2 : tie.Need-returns-2
 unfolding startPlain
 returns-2 c = rw (le-ltb _ _ (c .before .before .before .if1 .left), c .answer .ensures, c .before .start .ensures, c .before .before .zone-of .ensures)
 
-pub zone-start-spec : {M : Type 1} → statement M
-zone-start-spec =
+pub cut-zone-start-spec : {M : Type 1} → statement M
+cut-zone-start-spec =
     tie.close
     (tie.spec refused-requires returns zone-of-requires start-requires answer-requires returns-2)

@@ -1,9 +1,9 @@
--- `zone_c::zone_receive` meets its contract.
+-- `zone_c::cut_zone_receive` meets its contract.
 use borrow.Author.Tests.{lt-ltb, le-ltb}
 use Rattle.zone_c.specs.Plain.{receivePlain}
 use borrow.Author.Needs.{needs}
-use Rattle.zone_c.proofs.zone_receive.Statement.{statement}
-use Rattle.zone_c.proofs.zone_receive.Tie as tie
+use Rattle.zone_c.proofs.cut_zone_receive.Statement.{statement}
+use Rattle.zone_c.proofs.cut_zone_receive.Tie as tie
 
 refused-requires : tie.Need-refused-requires
 refused-requires c κs = search needs
@@ -25,7 +25,7 @@ returns-2 : tie.Need-returns-2
 unfolding receivePlain
 returns-2 c = rw (le-ltb _ _ (c .before .before .before .if1 .left), c .answer .ensures, c .before .receive .ensures, c .before .before .zone-of .ensures)
 
-pub zone-receive-spec : {M : Type 1} → statement M
-zone-receive-spec =
+pub cut-zone-receive-spec : {M : Type 1} → statement M
+cut-zone-receive-spec =
     tie.close
     (tie.spec refused-requires returns zone-of-requires receive-requires answer-requires returns-2)

@@ -1,9 +1,9 @@
--- `zone_c::zone_send` meets its contract.
+-- `zone_c::cut_zone_send` meets its contract.
 use borrow.Author.Tests.{lt-ltb, le-ltb}
 use Rattle.zone_c.specs.Plain.{sendPlain}
 use borrow.Author.Needs.{needs}
-use Rattle.zone_c.proofs.zone_send.Statement.{statement}
-use Rattle.zone_c.proofs.zone_send.Tie as tie
+use Rattle.zone_c.proofs.cut_zone_send.Statement.{statement}
+use Rattle.zone_c.proofs.cut_zone_send.Tie as tie
 
 refused-requires : tie.Need-refused-requires
 refused-requires c κs = search needs
@@ -25,7 +25,7 @@ returns-2 : tie.Need-returns-2
 unfolding sendPlain
 returns-2 c = rw (le-ltb _ _ (c .before .before .before .if1 .left), c .answer .ensures, c .before .send .ensures, c .before .before .zone-of .ensures)
 
-pub zone-send-spec : {M : Type 1} → statement M
-zone-send-spec =
+pub cut-zone-send-spec : {M : Type 1} → statement M
+cut-zone-send-spec =
     tie.close
     (tie.spec refused-requires returns zone-of-requires send-requires answer-requires returns-2)

@@ -1,9 +1,9 @@
--- `site_c::site_record` meets its contract.
+-- `site_c::cut_site_record` meets its contract.
 use Rattle.rules.proofs.Tests.{no, yes}
 use Rattle.site_c.specs.Plain.{recordPlain}
 use borrow.Author.Needs.{needs}
-use Rattle.site_c.proofs.site_record.Statement.{statement}
-use Rattle.site_c.proofs.site_record.Tie as tie
+use Rattle.site_c.proofs.cut_site_record.Statement.{statement}
+use Rattle.site_c.proofs.cut_site_record.Tie as tie
 
 are-kinds-requires : tie.Need-are-kinds-requires
 are-kinds-requires c κs = search needs
@@ -35,8 +35,8 @@ returns-2 c =
     let k = yes (r .before .before .are-kinds .ensures) (r .before .if1 .left) in
     (rw (k, c .written-of .ensures, w .«record» .ensures .0, r .run-of .ensures), rw (k, w .«record» .ensures .1, r .run-of .ensures))
 
-pub site-record-spec : {M : Type 1} → statement M
-site-record-spec =
+pub cut-site-record-spec : {M : Type 1} → statement M
+cut-site-record-spec =
     tie.close
     (tie.spec
     are-kinds-requires

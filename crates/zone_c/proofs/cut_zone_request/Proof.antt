@@ -1,9 +1,9 @@
--- `zone_c::zone_request` meets its contract.
+-- `zone_c::cut_zone_request` meets its contract.
 use borrow.Author.Tests.{lt-ltb, le-ltb}
 use Rattle.zone_c.specs.Plain.{requestPlain}
 use borrow.Author.Needs.{needs}
-use Rattle.zone_c.proofs.zone_request.Statement.{statement}
-use Rattle.zone_c.proofs.zone_request.Tie as tie
+use Rattle.zone_c.proofs.cut_zone_request.Statement.{statement}
+use Rattle.zone_c.proofs.cut_zone_request.Tie as tie
 
 refused-requires : tie.Need-refused-requires
 refused-requires c κs = search needs
@@ -25,7 +25,7 @@ returns-2 : tie.Need-returns-2
 unfolding requestPlain
 returns-2 c = rw (le-ltb _ _ (c .before .before .before .if1 .left), c .answer .ensures, c .before .request .ensures, c .before .before .zone-of .ensures)
 
-pub zone-request-spec : {M : Type 1} → statement M
-zone-request-spec =
+pub cut-zone-request-spec : {M : Type 1} → statement M
+cut-zone-request-spec =
     tie.close
     (tie.spec refused-requires returns zone-of-requires request-requires answer-requires returns-2)
