@@ -4,7 +4,7 @@
 #include <stdlib.h>
 #include <string.h>
 
-#include "site.h"
+#include <cut/site.h>
 
 static const uint8_t journal[] = {0x28, 0x09, 0x00, 0x0A, 0x00, 0x14, 0x00, 0x1E, 0x01, 0x04, 0x41, 0x00, 0x11,
                                   0x05, 0x02, 0x02, 0x88, 0x00, 0x0A, 0x07, 0x4A, 0x00, 0x42, 0x00, 0x48, 0x00};
@@ -21,17 +21,25 @@ static void must(int holds, const char *what)
     }
 }
 
+static void accepted(uint8_t refusal, const char *what)
+{
+    if (refusal != CUT_ACCEPTED) {
+        fprintf(stderr, "refused: %s: %s\n", what, cut_refusal_words(refusal));
+        exit(1);
+    }
+}
+
 static void traffic(void)
 {
-    must(cut_send(&run, 1, 2, 4) == 0, "1 hands 4 cars to 2");
-    must(cut_receive(&run, 1, 2) == 0, "2 takes them");
-    must(cut_send(&run, 3, 2, 5) == 0, "3 hands 5 cars to 2");
-    must(cut_send(&run, 1, 3, 2) == 0, "1 hands 2 cars to 3");
-    must(cut_start(&run, 2) == 0, "2 starts");
-    must(cut_start(&run, 1) == 11, "a second start is refused");
-    must(cut_send(&run, 2, 3, 7) == 0, "2 hands 7 cars to 3");
-    must(cut_receive(&run, 2, 3) == 0, "3 takes them");
-    must(cut_receive(&run, 1, 3) == 0, "3 takes the 2 cars");
+    accepted(cut_send(&run, 1, 2, 4), "1 hands 4 cars to 2");
+    accepted(cut_receive(&run, 1, 2), "2 takes them");
+    accepted(cut_send(&run, 3, 2, 5), "3 hands 5 cars to 2");
+    accepted(cut_send(&run, 1, 3, 2), "1 hands 2 cars to 3");
+    accepted(cut_start(&run, 2), "2 starts");
+    must(cut_start(&run, 1) == CUT_REFUSED_STARTED, "a second start is refused");
+    accepted(cut_send(&run, 2, 3, 7), "2 hands 7 cars to 3");
+    accepted(cut_receive(&run, 2, 3), "3 takes them");
+    accepted(cut_receive(&run, 1, 3), "3 takes the 2 cars");
 }
 
 /* The journal read back, and one whose fourth record (at position 3) hands over more cars than zone 1 has. */
@@ -39,42 +47,61 @@ static void damaged(void)
 {
     uint8_t other[sizeof journal];
     cut_reading r = cut_journal_read(journal, sizeof journal);
-    must(r.refusal == 0 && r.run.head.records == 9 && r.run.head.zones[1].stock == 17, "the journal reads back");
+    must(r.refusal == CUT_ACCEPTED && r.run.head.records == 9 && r.run.head.zones[1].stock == 17, "the journal reads back");
     memcpy(other, journal, sizeof journal);
     other[15] = 200;
     r = cut_journal_read(other, sizeof other);
-    must(r.refusal == 19 && r.position == 3 && r.run.head.count == 2, "a wrong record is refused with its position");
+    must(r.refusal == CUT_REFUSED_RECORD_CALL && r.position == 3 && r.run.head.count == 2, "a wrong record is refused with its position");
+}
+
+/* What nobody looks at may hold anything: the last place of the channel ("line") from 1 to 2, the channel from 1 to itself, zone 4. But a word
+ * above 767 among a channel's items is refused, and so is a mark above 2 at any index. */
+static void unlooked(void)
+{
+    uint8_t bytes[CUT_RECORDING_BYTES];
+    cut_run other = run;
+    other.items[CUT_PLACES + CUT_PLACES - 1] = 768;
+    other.items[0] = 768;
+    other.lens[0] = 200;
+    other.head.zones[3].stock = 65535;
+    other.head.opening[3] = 65535;
+    accepted(cut_record(&other, bytes, sizeof bytes).refusal, "the run is recorded");
+    must(memcmp(bytes, recording, sizeof recording) == 0, "the recording is the same");
+
+    other.lens[1] = CUT_PLACES;
+    must(cut_send(&other, 2, 1, 0) == CUT_REFUSED_UNSOUND, "a word above 767 is refused");
+    other = run;
+    other.head.zones[7].mark = 3;
+    must(cut_send(&other, 1, 2, 1) == CUT_REFUSED_UNSOUND, "a mark above 2 is refused");
+    must(other.head.zones[7].mark == 3 && other.head.records == run.head.records, "and left as it was");
 }
 
 int main(void)
 {
     const uint16_t stocks[] = {10, 20, 30};
     uint8_t bytes[CUT_RECORDING_BYTES];
-    must(cut_open(&run, 9, stocks, 3) == 2, "9 zones are refused");
-    must(cut_open(&run, 3, stocks, 3) == 0, "the site opens");
-    must(cut_record(&run, bytes, sizeof bytes).refusal == 12, "nothing was started");
+    must(cut_open(&run, 9, stocks, 3) == CUT_REFUSED_ZONE_COUNT, "9 zones are refused");
+    accepted(cut_open(&run, 3, stocks, 3), "the site opens");
+    must(cut_record(&run, bytes, sizeof bytes).refusal == CUT_REFUSED_NOT_STARTED, "nothing was started");
     traffic();
-    must(cut_record(&run, bytes, sizeof bytes).refusal == 13, "a request is under way");
-    must(cut_receive(&run, 2, 1) == 0, "1 takes the request");
+    must(cut_record(&run, bytes, sizeof bytes).refusal == CUT_REFUSED_REQUEST_UNDER_WAY, "a request is under way");
+    accepted(cut_receive(&run, 2, 1), "1 takes the request");
 
     cut_written w = cut_write(&run, bytes, sizeof bytes);
-    must(w.refusal == 0 && w.written == sizeof journal, "the journal is written");
+    must(w.refusal == CUT_ACCEPTED && w.written == sizeof journal, "the journal is written");
     must(memcmp(bytes, journal, sizeof journal) == 0, "the journal is as worked out by hand");
     w = cut_record(&run, bytes, sizeof bytes);
-    must(w.refusal == 0 && w.written == sizeof recording, "the recording is written");
+    must(w.refusal == CUT_ACCEPTED && w.written == sizeof recording, "the recording is written");
     must(memcmp(bytes, recording, sizeof recording) == 0, "the recording is as worked out by hand");
 
     memset(bytes, 0, sizeof bytes);
     w = cut_journal_record(journal, sizeof journal, bytes, sizeof bytes);
-    must(w.refusal == 0 && w.written == sizeof recording, "the journal's recording is written");
+    must(w.refusal == CUT_ACCEPTED && w.written == sizeof recording, "the journal's recording is written");
     must(memcmp(bytes, recording, sizeof recording) == 0, "it is the same");
-    must(cut_journal_record(journal, sizeof journal - 1, bytes, sizeof bytes).refusal == 17, "a cut journal is refused");
+    must(cut_journal_record(journal, sizeof journal - 1, bytes, sizeof bytes).refusal == CUT_REFUSED_LENGTH, "a cut journal is refused");
     damaged();
+    unlooked();
 
-    cut_run unsound = run;
-    unsound.head.zones[7].mark = 3;
-    must(cut_send(&unsound, 1, 2, 1) == 1, "a mark above 2 is refused");
-    must(unsound.head.zones[7].mark == 3 && unsound.head.records == run.head.records, "and left as it was");
     for (size_t i = 0; i < w.written; i++)
         printf(i == 0 ? "%02X" : " %02X", bytes[i]);
     printf("\n");

@@ -3,9 +3,9 @@
 #include <stdio.h>
 #include <stdlib.h>
 
-#include "zone.h"
+#include <cut/zone.h>
 
-/* An item on a line: a hand-over (request 0) or a request with its set. */
+/* An item on a channel ("line"): a message ("hand-over"; request 0) or a request with its set. */
 typedef struct {
     uint8_t request, cars, flag, set;
 } item;
@@ -18,6 +18,14 @@ static void must(int holds, const char *what)
 {
     if (!holds) {
         fprintf(stderr, "not as it must be: %s\n", what);
+        exit(1);
+    }
+}
+
+static void accepted(uint8_t refusal, const char *what)
+{
+    if (refusal != CUT_ACCEPTED) {
+        fprintf(stderr, "refused: %s: %s\n", what, cut_refusal_words(refusal));
         exit(1);
     }
 }
@@ -43,7 +51,7 @@ static void send_requests(uint8_t from, cut_step r)
 static void send(uint8_t from, uint8_t to, uint8_t cars)
 {
     cut_step r = cut_zone_send(zones[from], to, cars);
-    must(r.refusal == 0, "send");
+    accepted(r.refusal, "send");
     zones[from] = r.zone;
     put(from, to, (item){0, cars, r.flag, 0});
 }
@@ -53,7 +61,7 @@ static void receive(uint8_t from, uint8_t to)
     must(first[from][to] < last[from][to], "the line holds an item");
     item i = lines[from][to][first[from][to]];
     cut_step r = i.request ? cut_zone_request(zones[to], i.set) : cut_zone_receive(zones[to], from, i.cars, i.flag);
-    must(r.refusal == 0, "receive");
+    accepted(r.refusal, "receive");
     first[from][to]++;
     zones[to] = r.zone;
     send_requests(to, r);
@@ -63,7 +71,7 @@ int main(void)
 {
     for (uint8_t k = 1; k <= 3; k++) {
         cut_opening o = cut_zone_open(3, k, 10);
-        must(o.refusal == 0, "open");
+        accepted(o.refusal, "open");
         zones[k] = o.zone;
     }
     send(3, 2, 1);
@@ -71,7 +79,7 @@ int main(void)
     send(2, 1, 1);
     receive(2, 1);
     cut_step r = cut_zone_start(zones[1]);
-    must(r.refusal == 0, "start");
+    accepted(r.refusal, "start");
     zones[1] = r.zone;
     send_requests(1, r);
     send(1, 3, 2);
@@ -80,12 +88,12 @@ int main(void)
     receive(2, 3);
     for (int k = 1; k <= 3; k++)
         printf("zone %d: mark %d, events %d, stock %d\n", k, zones[k].mark, zones[k].saved.events, zones[k].saved.stock);
-    must(zones[3].mark == 2 && zones[3].saved.events == 1 && zones[3].saved.stock == 9, "zone 3");
+    must(zones[3].mark == CUT_MARK_PERMANENT && zones[3].saved.events == 1 && zones[3].saved.stock == 9, "zone 3");
     must(zones[1].saved.stock == 11 && zones[2].saved.stock == 10, "zones 1 and 2");
 
     cut_zone unsound = zones[1];
     unsound.mark = 3;
     r = cut_zone_send(unsound, 2, 1);
-    must(r.refusal == 1 && r.zone.mark == 3 && r.zone.stock == unsound.stock, "a mark above 2 is refused as it came");
+    must(r.refusal == CUT_REFUSED_UNSOUND && r.zone.mark == 3 && r.zone.stock == unsound.stock, "a mark above 2 is refused as it came");
     return 0;
 }

@@ -2,7 +2,7 @@
 
 use crate::compare::{Answer, Difference};
 
-/// The calls of the static libraries.
+/// The calls of the library.
 #[derive(Clone, Copy, Debug, PartialEq, Eq)]
 pub enum Entry {
     SiteOpen,
@@ -157,13 +157,13 @@ impl Counts {
     }
 
     pub fn table(&self) -> String {
-        let mut lines = String::from("call            number: times\n");
+        let mut lines = String::from("call               number: times\n");
         for (times, (name, numbers)) in self.times.iter().zip(ENTRIES) {
             let cells: Vec<String> = numbers
                 .iter()
                 .map(|&number| format!("{number}: {}", times[usize::from(number)]))
                 .collect();
-            lines += &format!("{name:15} {}\n", cells.join(", "));
+            lines += &format!("{name:18} {}\n", cells.join(", "));
         }
         let (turned, above) = (self.turned, self.above);
         lines += &format!("complete recordings with a provisional mark turned firm: {turned}\n");

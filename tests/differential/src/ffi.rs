@@ -1,4 +1,4 @@
-//! The calls of the proved code as c/zone.h and c/site.h declare them, and the same made safe.
+//! The calls of the proved code as c/cut/zone.h and c/cut/site.h declare them, and the same made safe.
 
 use std::mem::{offset_of, size_of};
 

@@ -1,6 +1,6 @@
-/* The calls of c/site.h that are inline functions, and sums over the fields of the headers' structs by their names, so that the headers
+/* The calls of c/cut/site.h that are inline functions, and sums over the fields of the headers' structs by their names, so that the headers
  * themselves are compared. */
-#include "site.h"
+#include <cut/site.h>
 
 uint8_t header_open(cut_run *run, uint8_t count, const uint16_t *stocks, size_t n)
 {

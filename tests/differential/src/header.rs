@@ -1,4 +1,4 @@
-//! The calls of the C headers: the inline functions of c/site.h, which take the parts of a run to
+//! The calls of the C headers: the inline functions of c/cut/site.h, which take the parts of a run to
 //! the library and back, and sums over the fields of the structs by the names that C has.
 
 use crate::ffi::{

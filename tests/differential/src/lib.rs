@@ -1,4 +1,4 @@
-//! Differential tests: the proved code, called through its static libraries, beside the second
+//! Differential tests: the proved code, called through libcut.a, beside the second
 //! implementation of the same rules. Every answer, every field and every lent byte must be equal.
 
 pub mod calls;

@@ -33,7 +33,7 @@ fn journal(run: &Run) {
 fn main() {
     assert!(
         proved::same_layout(),
-        "the peer's run and zone lie in memory as those of c/site.h and c/zone.h"
+        "the peer's run and zone lie in memory as those of c/cut/site.h and c/cut/zone.h"
     );
     let arguments: Vec<String> = std::env::args().skip(1).collect();
     let arguments: Vec<&str> = arguments.iter().map(String::as_str).collect();

@@ -1,6 +1,6 @@
 /* The proved code as a buyer calls it in C: by the header's inline calls, and by the exported functions where the header has none. What an
  * answer holds is given by field, so that only this file knows the layout of the answers. */
-#include "site.h"
+#include <cut/site.h>
 
 uint8_t proved_open(cut_run *run, uint8_t count, const uint16_t *stocks, size_t n)
 {

@@ -1,4 +1,4 @@
-//! The calls of the proved code, through src/proved.c and the static libraries.
+//! The calls of the proved code, through src/proved.c and libcut.a.
 
 use speed::site::{Local, Read, Run, Written};
 use speed::zone::{Answer, Zone};

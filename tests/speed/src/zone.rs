@@ -10,7 +10,7 @@ pub struct Saved {
     pub events: u16,
 }
 
-/// A zone. Mark 0 is none, 1 provisional, 2 firm. The fields stand as in c/zone.h, so that the same
+/// A zone. Mark 0 is none, 1 provisional, 2 firm. The fields stand as in c/cut/zone.h, so that the same
 /// zone can be lent to the proved code.
 #[repr(C)]
 #[derive(Clone, Copy, Debug, Default, PartialEq, Eq)]

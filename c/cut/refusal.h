@@ -1,0 +1,151 @@
+/* What the parts of the Cut Recorder share, in C and in C++: the version, the limits, the refusals and the kinds of a checkpoint. <cut/zone.h>
+ * and <cut/site.h> include it.
+ *
+ * Names have the field's terms; document 01's words stand beside them in quotation marks. */
+#ifndef CUT_REFUSAL_H
+#define CUT_REFUSAL_H
+
+#include <stdint.h>
+
+/* The version of the calls and structs. The major number, which is the library's soname too, is raised when a program would have to be
+ * compiled anew. */
+#define CUT_VERSION_MAJOR 1
+#define CUT_VERSION_MINOR 0
+#define CUT_VERSION_PATCH 0
+#define CUT_VERSION "1.0.0"
+
+/* The first and the last "edition" of journals and recordings that this version knows. A journal of another one is refused with 15. */
+#define CUT_EDITION_FIRST 1
+#define CUT_EDITION_LAST 1
+
+/* The limits: the "zones" of a site; the "records" of a run, and the "own events" of a zone in the zone part; the "cars" of a site, its
+ * stocks and what is on its channels ("lines") together, and so the "stock" of a zone. */
+#define CUT_ZONES_MIN 2
+#define CUT_ZONES_MAX 8
+#define CUT_RECORDS_MAX 1000
+#define CUT_CARS_MAX 65535
+
+/* What a call answers: 0, or the number of the first question of its list, from left to right, that is answered no. Here are document 01's
+ * questions in their order, each with README.md's words for its no, where "channel" in a name is "line" there. */
+enum cut_refusal {
+    CUT_ACCEPTED = 0,
+    /* "Is the state sound"? No: the state is not sound, or (recording, journal) not what its journal replays to. */
+    CUT_REFUSED_UNSOUND = 1,
+    /* "Is the zone count 2 to 8?" No: the zone count is not 2 to 8. */
+    CUT_REFUSED_ZONE_COUNT = 2,
+    /* "Are there as many stocks as zones?" No: not as many stocks as zones. */
+    CUT_REFUSED_STOCK_COUNT = 3,
+    /* "Is their sum at most 65,535?" No: the stocks sum to more than 65,535. */
+    CUT_REFUSED_STOCK_SUM = 4,
+    /* "Are the named zones on the site, and two named zones different?" No: a named zone is not on the site, or two named zones are the same. */
+    CUT_REFUSED_ZONE = 5,
+    /* "Are there fewer than 1,000 records?" No: 1,000 records (zone part: own events) are there. */
+    CUT_REFUSED_RUN_FULL = 6,
+    /* "Does the sender's stock cover the cars?" No: the sender's stock does not cover the cars. */
+    CUT_REFUSED_STOCK_TOO_LOW = 7,
+    /* "Has the line a free place?" No: the line is full. */
+    CUT_REFUSED_CHANNEL_FULL = 8,
+    /* "Does the line hold an item?" No: the line is empty. */
+    CUT_REFUSED_CHANNEL_EMPTY = 9,
+    /* "Has each line that must take a request a free place?" No: a line that must take a request is full. */
+    CUT_REFUSED_REQUEST_CHANNEL_FULL = 10,
+    /* "Has no recording been started?" No: a recording has been started (zone part: the zone has a mark). */
+    CUT_REFUSED_STARTED = 11,
+    /* "Has one been started?" No: no recording has been started. */
+    CUT_REFUSED_NOT_STARTED = 12,
+    /* "Is every line free of requests?" No: a request is still under way. */
+    CUT_REFUSED_REQUEST_UNDER_WAY = 13,
+    /* "Are the lent bytes enough?" No: too few bytes were lent. */
+    CUT_REFUSED_TOO_FEW_BYTES = 14,
+    /* "Has the journal two bytes and edition 1?" No: not a journal of edition 1. */
+    CUT_REFUSED_EDITION = 15,
+    /* "Is the zones field 1 to 7 and the record number at most 1,000?" No: the header's zones or records are out of range. */
+    CUT_REFUSED_HEADER = 16,
+    /* "Is the length 2 + 2 x zones + 2 x records?" No: the length does not fit the header. */
+    CUT_REFUSED_LENGTH = 17,
+    /* "Is the record well formed (wrong zones alone meet 19)?" No: the record at the position is not well formed. */
+    CUT_REFUSED_RECORD_MALFORMED = 18,
+    /* "Is its call accepted?" No: the call of the record at the position is not accepted. */
+    CUT_REFUSED_RECORD_CALL = 19,
+    /* "Does the zone's stock stay at or below 65,535?" No: the zone's stock would exceed 65,535 (zone part alone). */
+    CUT_REFUSED_STOCK_TOO_HIGH = 20
+};
+
+/* The kinds of a checkpoint ("mark"): none, mutable ("provisional") or permanent ("firm"). The field that holds one is a byte; every other
+ * value of it is refused with 1. */
+enum cut_mark_kind {
+    CUT_MARK_NONE = 0,
+    CUT_MARK_MUTABLE = 1,
+    CUT_MARK_PERMANENT = 2
+};
+
+/* What makes the headers refuse a compiler that lays out their structs in another way than the library has them. */
+#ifdef __cplusplus
+#define CUT_STATIC_ASSERT(test, text) static_assert(test, text)
+#define CUT_ALIGNOF(type) alignof(type)
+#else
+#define CUT_STATIC_ASSERT(test, text) _Static_assert(test, text)
+#define CUT_ALIGNOF(type) _Alignof(type)
+#endif
+
+#ifdef __cplusplus
+extern "C" {
+#endif
+
+/* The words of a refusal, as README.md has them; for 0 and for a number that no call answers there are fixed words too, so that the answer is
+ * never null. It is a constant, to be freed by nobody. */
+static inline const char *cut_refusal_words(uint8_t refusal)
+{
+    switch (refusal) {
+    case CUT_ACCEPTED:
+        return "accepted";
+    case CUT_REFUSED_UNSOUND:
+        return "the state is not sound, or (recording, journal) not what its journal replays to";
+    case CUT_REFUSED_ZONE_COUNT:
+        return "the zone count is not 2 to 8";
+    case CUT_REFUSED_STOCK_COUNT:
+        return "not as many stocks as zones";
+    case CUT_REFUSED_STOCK_SUM:
+        return "the stocks sum to more than 65,535";
+    case CUT_REFUSED_ZONE:
+        return "a named zone is not on the site, or two named zones are the same";
+    case CUT_REFUSED_RUN_FULL:
+        return "1,000 records (zone part: own events) are there";
+    case CUT_REFUSED_STOCK_TOO_LOW:
+        return "the sender's stock does not cover the cars";
+    case CUT_REFUSED_CHANNEL_FULL:
+        return "the line is full";
+    case CUT_REFUSED_CHANNEL_EMPTY:
+        return "the line is empty";
+    case CUT_REFUSED_REQUEST_CHANNEL_FULL:
+        return "a line that must take a request is full";
+    case CUT_REFUSED_STARTED:
+        return "a recording has been started (zone part: the zone has a mark)";
+    case CUT_REFUSED_NOT_STARTED:
+        return "no recording has been started";
+    case CUT_REFUSED_REQUEST_UNDER_WAY:
+        return "a request is still under way";
+    case CUT_REFUSED_TOO_FEW_BYTES:
+        return "too few bytes were lent";
+    case CUT_REFUSED_EDITION:
+        return "not a journal of edition 1";
+    case CUT_REFUSED_HEADER:
+        return "the header's zones or records are out of range";
+    case CUT_REFUSED_LENGTH:
+        return "the length does not fit the header";
+    case CUT_REFUSED_RECORD_MALFORMED:
+        return "the record at the position is not well formed";
+    case CUT_REFUSED_RECORD_CALL:
+        return "the call of the record at the position is not accepted";
+    case CUT_REFUSED_STOCK_TOO_HIGH:
+        return "the zone's stock would exceed 65,535 (zone part alone)";
+    default:
+        return "not a number that a call answers";
+    }
+}
+
+#ifdef __cplusplus
+}
+#endif
+
+#endif

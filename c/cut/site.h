@@ -1,0 +1,233 @@
+/* The Cut Recorder's site engine, journal and recording, for programs in C and C++; docs/INTEGRATION.md says how to use them.
+ *
+ * A control room keeps one cut_run and passes it to each call:
+ *
+ *     static cut_run run;
+ *     if (cut_open(&run, count, stocks, count) != CUT_ACCEPTED)
+ *         return;
+ *     uint8_t refusal = cut_send(&run, from, to, cars);
+ *
+ * A call answers CUT_ACCEPTED, or the first refusal of its list, from left to right, that holds (cut_refusal_words gives its words); then the
+ * run and every lent byte are as they were, and `written` is 0. Every value of every field and argument may be passed. Pointers must not
+ * be null, also where a length is 0, must name as many values as the length or the array's type says, and what is written through one must
+ * not overlap what another names.
+ *
+ * A run is sound where count is 2 to 8, records is at most 1,000, no zone of the site has more own events than there are records, every set
+ * of its zones and requests names only zones of the site, no channel ("line") has more than 16 items, stocks and cars on channels are at
+ * most 65,535 together, and no mark is above 2. Recording and journal writing also ask whether the run is what its journal replays to. A
+ * call on any other run is refused with 1.
+ *
+ * The calls keep no state of their own, allocate nothing, never block and always return, so that threads may call at once on different runs;
+ * cut_record and cut_write only read theirs, and may share it. The library is for x86-64 with System V calls; of the C library it uses
+ * memcpy and memset.
+ *
+ * Whoever has a journal and wants its recording needs cut_journal_record alone.
+ *
+ * Journal and recording are 16-bit words, high byte first.
+ * Journal: 1 * 8192 + (zones - 1) * 1024 + number of records; the opening stock of each zone; a word a record:
+ *     kind * 16384 + (first zone - 1) * 2048 + (second zone - 1) * 256 + cars
+ * with kind 0 a message ("hand-over") from first to second, kind 1 a "receipt" on that channel (cars 0), kind 2 a "start" by the first (both
+ * others 0).
+ * Recording: 1 * 8192 + (zones - 1) * 1024 + number of items; for each zone 32768 where it is permanent ("firm") plus its events, then its
+ * stock; then each item on a channel as a record of kind 0, by sender, then receiver, then order sent. */
+#ifndef CUT_SITE_H
+#define CUT_SITE_H
+
+#include <stddef.h>
+#include <stdint.h>
+
+#include "refusal.h"
+#include "zone.h"
+
+#ifdef __cplusplus
+extern "C" {
+#endif
+
+/* The "places" of a channel ("line"), and the channels of a run: one for each two zones, in either order, and 8 that no site has. */
+#define CUT_PLACES 16
+#define CUT_CHANNELS 64
+
+/* Bytes that are enough for any journal and for any recording: a header, the zones, and a word for each record. */
+#define CUT_JOURNAL_BYTES 2018
+#define CUT_RECORDING_BYTES 2034
+
+/* Bytes of stack that are enough for a call, as in <cut/zone.h>: cut_open; cut_send, cut_receive and cut_start; cut_record; cut_write; and
+ * the two calls on a journal. */
+#define CUT_OPEN_STACK 4608
+#define CUT_CALL_STACK 2048
+#define CUT_RECORD_STACK 36864
+#define CUT_WRITE_STACK 38912
+#define CUT_JOURNAL_READ_STACK 22528
+#define CUT_JOURNAL_RECORD_STACK 18432
+
+/* A "zone" of a run. 10 bytes, alignment 2. */
+typedef struct cut_local {
+    uint16_t stock;  /* the "stock": the cars in the zone */
+    uint16_t events; /* the "own events": messages ("hand-overs") sent and received */
+    uint8_t deps;    /* the dependency set ("heard set"): the zone and those that it received messages from before its checkpoint */
+    uint8_t mark;    /* the kind of its checkpoint ("mark: none, provisional or firm"), an enum cut_mark_kind */
+    cut_saved saved; /* what the checkpoint keeps; with CUT_MARK_NONE it means nothing, and an accepted call writes it as 0 */
+} cut_local;
+
+/* What a "run" has beside its channels and its journal. 100 bytes, alignment 2; the byte behind count is padding, so runs are compared by
+ * their fields.
+ *
+ * Zone k stands at index k - 1. What stands behind the last zone of the site, in zones and in opening, is looked at by nobody, but for a mark
+ * above 2, which is refused with 1 there too. Opening writes there an unmarked zone with stock 0 that has heard itself alone, and the
+ * opening stock 0; an accepted call keeps what is there, and writes saved as 0 where mark is 0. */
+typedef struct cut_head {
+    uint8_t count;                   /* the "zone count" */
+    uint16_t records;                /* the number of "records" */
+    cut_local zones[CUT_ZONES_MAX];  /* the "zones" */
+    uint16_t opening[CUT_ZONES_MAX]; /* the "opening stock" of each */
+} cut_head;
+
+/* A "run". 4,212 bytes, alignment 2.
+ *
+ * The channel ("line") from zone a to zone b has number n = 8 * (a - 1) + (b - 1); lens[n] items are on it, the first at items[16 * n], the
+ * next behind it. An item is a word:
+ *     0 to 255    a message ("hand-over") of so many cars, with the flag ("marked bit") 0
+ *     256 to 511  a message of word - 256 cars, with the flag 1
+ *     512 to 767  a "request" with the set word - 512
+ *     above 767   a request too; its set, word - 512, names a zone that no site has
+ * A run is refused with 1 where an item on a channel of its site is a request that names a zone which the site does not have, so always
+ * where it is above 767.
+ *
+ * Looked at by nobody: the places of a channel behind its items; all places and the length of a channel that the site does not have, from a
+ * zone to itself or with a zone above count; the record words behind the last. Anything may stand there. Opening writes 0 there, and a
+ * receipt moves all places of its channel down by one and writes 0 into the last, so that in a run that calls made it stays 0. */
+typedef struct cut_run {
+    cut_head head;                             /* the zones and the "opening" */
+    uint16_t items[CUT_CHANNELS * CUT_PLACES]; /* the "items" on the channels ("lines"), 16 places for each */
+    uint8_t lens[CUT_CHANNELS];                /* the number of items on each channel */
+    uint16_t journal[CUT_RECORDS_MAX];         /* the "journal": head.records record words, as above */
+} cut_run;
+
+/* What opening answers. 4,214 bytes, alignment 2. */
+typedef struct cut_answer {
+    cut_run run;     /* the first run; refused, one of 2 zones with stock 0 */
+    uint8_t refusal; /* the "refusal", an enum cut_refusal */
+} cut_answer;
+
+/* What a call on a run answers beside the arrays that it was lent. 102 bytes, alignment 2. */
+typedef struct cut_head_answer {
+    cut_head head;   /* the next head; refused, the one that was passed */
+    uint8_t refusal; /* the "refusal", an enum cut_refusal */
+} cut_head_answer;
+
+/* What reading answers. 4,232 bytes, alignment 8. */
+typedef struct cut_reading {
+    cut_run run;     /* the run that the journal replays to; refused, one of 2 zones with stock 0 */
+    size_t position; /* the "position" of the record that is refused with 18 or 19, counted from 0; else 0 */
+    uint8_t refusal; /* the "refusal", an enum cut_refusal */
+} cut_reading;
+
+/* What writing answers. 24 bytes, alignment 8. */
+typedef struct cut_written {
+    uint8_t refusal; /* the "refusal", an enum cut_refusal */
+    size_t position; /* of cut_journal_record, as in a cut_reading; else 0 */
+    size_t written;  /* "the number of bytes written" to the front of out; bytes behind them keep what they had */
+} cut_written;
+
+CUT_STATIC_ASSERT(sizeof(cut_local) == 10 && sizeof(cut_head) == 100 && sizeof(cut_run) == 4212, "the layout that the library has");
+CUT_STATIC_ASSERT(sizeof(cut_answer) == 4214 && sizeof(cut_head_answer) == 102, "the layout that the library has");
+CUT_STATIC_ASSERT(sizeof(cut_reading) == 4232 && sizeof(cut_written) == 24, "the layout that the library has");
+CUT_STATIC_ASSERT(CUT_ALIGNOF(cut_run) == 2 && CUT_ALIGNOF(cut_reading) == 8, "the layout that the library has");
+CUT_STATIC_ASSERT(CUT_ALIGNOF(cut_head_answer) == 2 && CUT_ALIGNOF(cut_written) == 8, "the layout that the library has");
+CUT_STATIC_ASSERT(offsetof(cut_head, records) == 2 && offsetof(cut_head, zones) == 4, "the layout that the library has");
+CUT_STATIC_ASSERT(offsetof(cut_run, items) == 100 && offsetof(cut_run, lens) == 2148, "the layout that the library has");
+CUT_STATIC_ASSERT(offsetof(cut_run, journal) == 2212 && offsetof(cut_reading, position) == 4216, "the layout that the library has");
+CUT_STATIC_ASSERT(CUT_JOURNAL_BYTES == 2 + 2 * CUT_ZONES_MAX + 2 * CUT_RECORDS_MAX, "a word a zone and a word a record");
+CUT_STATIC_ASSERT(CUT_RECORDING_BYTES == 2 + 4 * CUT_ZONES_MAX + 2 * CUT_RECORDS_MAX, "two words a zone, and no more items than records");
+
+/* The library's functions over the parts of a run: its head by value (100 bytes) and its arrays by pointer (1,024 words, 64 bytes and 1,000
+ * words). Programs use the calls on a cut_run below them, which take the same and say what is refused. */
+
+/* cut_open ("open"); refused, it hands back a run too. Stack: CUT_OPEN_STACK. */
+cut_answer cut_site_open(uint8_t count, const uint16_t *stocks, size_t n);
+
+/* cut_send ("hand-over"). Stack: CUT_CALL_STACK. */
+cut_head_answer cut_site_send(cut_head head, uint16_t *items, uint8_t *lens, uint16_t *journal, uint8_t from, uint8_t to, uint8_t cars);
+
+/* cut_receive ("receipt"). Stack: CUT_CALL_STACK. */
+cut_head_answer cut_site_receive(cut_head head, uint16_t *items, uint8_t *lens, uint16_t *journal, uint8_t from, uint8_t to);
+
+/* cut_start ("start"). Stack: CUT_CALL_STACK. */
+cut_head_answer cut_site_start(cut_head head, uint16_t *items, uint8_t *lens, uint16_t *journal, uint8_t zone);
+
+/* cut_record ("recording"). Stack: CUT_RECORD_STACK. */
+cut_written cut_site_record(cut_head head, const uint16_t *items, const uint8_t *lens, const uint16_t *journal, uint8_t *out, size_t size);
+
+/* cut_write ("journal writing"). Stack: CUT_WRITE_STACK. */
+cut_written cut_journal_write(cut_head head, const uint16_t *items, const uint8_t *lens, const uint16_t *journal, uint8_t *out, size_t size);
+
+/* Reads a journal of `size` bytes ("reading"). Refused with: 15 it has no header of edition 1; 16 the header's zones or records are out of
+ * range; 17 its length does not fit the header; 4 the stocks sum to more than 65,535; then for each record in turn 18 it is not well
+ * formed, 19 its call is not accepted. Stack: CUT_JOURNAL_READ_STACK, of which the answer takes 4,232 bytes. */
+cut_reading cut_journal_read(const uint8_t *bytes, size_t size);
+
+/* Reads a journal of `size` bytes and writes its snapshot ("recording") to `room` bytes; CUT_RECORDING_BYTES are enough. Refused with:
+ * reading's numbers, then 12, 13, 14. Stack: CUT_JOURNAL_RECORD_STACK. */
+cut_written cut_journal_record(const uint8_t *bytes, size_t size, uint8_t *out, size_t room);
+
+/* Opens a site of `count` zones with their n stocks ("open"). Refused with: 2 the count is not 2 to 8; 3 n is not the count; 4 the stocks sum
+ * to more than 65,535. Then *run is as it was. Stack: CUT_OPEN_STACK, of which the library's answer takes 4,214 bytes. */
+static inline uint8_t cut_open(cut_run *run, uint8_t count, const uint16_t *stocks, size_t n)
+{
+    cut_answer a = cut_site_open(count, stocks, n);
+    if (a.refusal == CUT_ACCEPTED)
+        *run = a.run;
+    return a.refusal;
+}
+
+/* Sends a message ("hand-over") of `cars` from one zone to another. Refused with: 1 the run is not sound; 5 a zone is not on the site, or both
+ * are the same; 6 there are 1,000 records; 7 the sender's stock does not cover the cars; 8 the channel ("line") is full. Stack:
+ * CUT_CALL_STACK. */
+static inline uint8_t cut_send(cut_run *run, uint8_t from, uint8_t to, uint8_t cars)
+{
+    cut_head_answer t = cut_site_send(run->head, run->items, run->lens, run->journal, from, to, cars);
+    if (t.refusal == CUT_ACCEPTED)
+        run->head = t.head;
+    return t.refusal;
+}
+
+/* Receives the first item on the channel from one zone to another ("receipt"). Refused with: 1; 5; 6; 9 the channel ("line") is empty; 10 a
+ * channel that must take a request is full. Stack: CUT_CALL_STACK. */
+static inline uint8_t cut_receive(cut_run *run, uint8_t from, uint8_t to)
+{
+    cut_head_answer t = cut_site_receive(run->head, run->items, run->lens, run->journal, from, to);
+    if (t.refusal == CUT_ACCEPTED)
+        run->head = t.head;
+    return t.refusal;
+}
+
+/* Starts the recording ("start") with a zone as its initiator ("starter"). Refused with: 1; 5; 6; 11 a recording has been started; 10. Stack:
+ * CUT_CALL_STACK. */
+static inline uint8_t cut_start(cut_run *run, uint8_t zone)
+{
+    cut_head_answer t = cut_site_start(run->head, run->items, run->lens, run->journal, zone);
+    if (t.refusal == CUT_ACCEPTED)
+        run->head = t.head;
+    return t.refusal;
+}
+
+/* Writes the snapshot ("recording") to `size` bytes; CUT_RECORDING_BYTES are enough. Refused with: 1, also where the run is not what its
+ * journal replays to; 12 no recording was started; 13 a request is still on a channel ("line"); 14 too few bytes are lent. Stack:
+ * CUT_RECORD_STACK. */
+static inline cut_written cut_record(const cut_run *run, uint8_t *out, size_t size)
+{
+    return cut_site_record(run->head, run->items, run->lens, run->journal, out, size);
+}
+
+/* Writes the run's journal ("journal writing") to `size` bytes; CUT_JOURNAL_BYTES are enough. Refused with: 1 as above; 14. Stack:
+ * CUT_WRITE_STACK. */
+static inline cut_written cut_write(const cut_run *run, uint8_t *out, size_t size)
+{
+    return cut_journal_write(run->head, run->items, run->lens, run->journal, out, size);
+}
+
+#ifdef __cplusplus
+}
+#endif
+
+#endif
