@@ -1,7 +1,7 @@
 #!/usr/bin/env python3
 """The tables of docs/PERFORMANCE.md that set the proved code beside the peer written for speed (tests/speed), in one run.
 
-Run in the repository after .ci/run, or after `rt staticlib site_c` and `rt staticlib zone_c`; needs valgrind and cargo. With
+Run in the repository after .ci/run, or after `make`; needs valgrind and cargo. With
 `--before FILE` the tables get the figures of an earlier output as columns; FILE may be docs/PERFORMANCE.md.
 """
 import os

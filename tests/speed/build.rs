@@ -1,5 +1,5 @@
-//! Links the static libraries of the proved code, which `rt staticlib` builds, and a buyer's calls of
-//! them in C.
+//! Links libcut.a, the library of the proved code that is installed, which `make` builds, and a buyer's
+//! calls of it in C.
 
 use std::path::Path;
 use std::process::Command;
@@ -14,11 +14,20 @@ fn calls(package: &Path) {
     let out = std::env::var("OUT_DIR").expect("cargo names the folder for what is built");
     let out = Path::new(&out);
     let (source, include) = (package.join("src/proved.c"), package.join("../../c"));
-    for file in ["site.h", "zone.h"] {
-        println!("cargo:rerun-if-changed={}", include.join(file).display());
+    for file in ["refusal.h", "site.h", "zone.h"] {
+        let header = include.join("cut").join(file);
+        println!("cargo:rerun-if-changed={}", header.display());
     }
     println!("cargo:rerun-if-changed={}", source.display());
-    let flags = ["-std=c11", "-Wall", "-Wextra", "-Werror", "-O2", "-fPIC"];
+    let flags = [
+        "-std=c11",
+        "-Wall",
+        "-Wextra",
+        "-Wpedantic",
+        "-Werror",
+        "-O2",
+        "-fPIC",
+    ];
     let object = out.join("proved.o");
     run(Command::new("gcc")
         .args(flags)
@@ -40,14 +49,10 @@ fn main() {
     let package = std::env::var("CARGO_MANIFEST_DIR").expect("cargo names the package's folder");
     let package = Path::new(&package);
     calls(package);
-    let folder = package.join("../../target/staticlib");
+    let folder = package.join("../../target/lib");
+    let archive = folder.join("libcut.a");
+    println!("cargo:rerun-if-changed={}", archive.display());
+    assert!(archive.exists(), "target/lib/libcut.a is missing: run make");
     println!("cargo:rustc-link-search=native={}", folder.display());
-    for name in ["site_c", "zone_c"] {
-        let archive = folder.join(format!("lib{name}.a"));
-        println!("cargo:rerun-if-changed={}", archive.display());
-        if !archive.exists() {
-            panic!("target/staticlib/lib{name}.a is missing: run rt staticlib {name}");
-        }
-        println!("cargo:rustc-link-lib=static={name}");
-    }
+    println!("cargo:rustc-link-lib=static=cut");
 }
