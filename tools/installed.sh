@@ -35,7 +35,7 @@ version=$(sed -n 's/^#define CUT_VERSION "\(.*\)"/\1/p' c/cut/refusal.h)
 [ "$(pkg-config --modversion cut)" = "$version" ] || fail "cut.pc has another version than the headers."
 
 # The libraries show the calls of the headers and nothing else, and need two functions of the C library.
-nm -P --defined-only --extern-only "$libdir/libcut.a" | sed -n 's/ T .*//p' | sort >"$scratch/archive"
+nm -P --defined-only --extern-only "$libdir/libcut.a" | sed -n 's/ [A-Z] .*//p' | sort >"$scratch/archive"
 nm -P --defined-only --dynamic "$libdir/libcut.so" | sed 's/ .*//' | sort >"$scratch/shared"
 sed -n 's/^cut_[a-z_]* \(cut_[a-z_]*\)(.*;$/\1/p; s/^uint[0-9]*_t \(cut_[a-z_]*\)(.*;$/\1/p' c/cut/*.h | sort >"$scratch/declared"
 cmp "$scratch/archive" "$scratch/declared" || fail "libcut.a does not show just the calls that the headers declare."
