@@ -1,4 +1,4 @@
--- Demand 3, whole: what is claimed of an accepted opening, any list of calls on its run, and a recording call after it.
+-- Demand 3 (docs/RULES.md), whole: what is claimed of an accepted opening, any list of calls on its run, and a recording call after it.
 use mathlib.Core.Path.{_≡_}
 use mathlib.Core.Bool.{false}
 use mathlib.Core.List.{List, [], _∷_}

@@ -1,1 +1,1 @@
-// Demand 3.
+// Demand 3 (docs/RULES.md, demand 3).

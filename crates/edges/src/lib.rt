@@ -1,1 +1,1 @@
-// The proved table of worked edges: document 01, "One run entire".
+// The proved table of worked edges (docs/RULES.md, case A, case B and edges).

@@ -1,4 +1,4 @@
-// The questions that several parts ask, over numbers alone.
+// The questions (docs/RULES.md, section 7) that several parts ask, over numbers alone.
 ghost use mathlib.Core.Path.{_≡_};
 ghost use Rattle.rules.specs.Questions.{isCount, isOn};
 ghost use Rattle.rules.specs.Sets.{within};

@@ -1,4 +1,4 @@
-// The recording of a run, written as bytes.
+// The recording of a run, written as bytes (docs/RULES.md, sections 5 and 8).
 ghost use Rattle.recording.specs.declared.Recorded.{Recorded};
 use rules::RECORDS;
 use rules::ZONES;

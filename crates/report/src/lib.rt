@@ -1,4 +1,4 @@
-// The program's text: a journal in, its recording out.
+// The program's text (docs/RULES.md, section 9): a journal in, its recording out.
 ghost use Rattle.report.specs.Report.{reportText};
 ghost use Rattle.text.specs.Text.{Prints};
 use journal::JOURNAL_BYTES;

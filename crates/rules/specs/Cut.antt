@@ -1,4 +1,4 @@
--- Demand 3 over the rules: what is claimed of the accepted calls and of a recording of them.
+-- Demand 3 (docs/RULES.md, demand 3) over the rules: what is claimed of the accepted calls and of a recording of them.
 use mathlib.Core.Path.{_≡_}
 use mathlib.Core.Bool.{Bool, true, false}
 use mathlib.Core.List.{List, [], _∷_, _++_}

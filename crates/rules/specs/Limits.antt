@@ -1,4 +1,4 @@
--- The limits of document 01, each named once.
+-- The limits (docs/RULES.md, section 2), each named once.
 use Prim.Native.Nat.{ℕ}
 
 -- The zones of a site: "2 to 8 zones".

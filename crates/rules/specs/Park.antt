@@ -1,5 +1,5 @@
--- The plain car park of demand 3: a stock for each zone, without upper limit, and for each ordered pair of zones a channel, a list of
--- numbers of cars. It has no checkpoints, no requests and no full channels.
+-- The plain car park of demand 3 (docs/RULES.md, demand 3): a stock for each zone, without upper limit, and for each ordered pair of zones
+-- a channel, a list of numbers of cars. It has no checkpoints, no requests and no full channels.
 use mathlib.Core.Bool.{Bool, true, false, _&&_, not}
 use mathlib.Core.List.{List, [], _∷_, tail}
 use mathlib.Core.Option.{Option, none, some}

@@ -7,7 +7,7 @@ use Prim.Native.Nat.{ℕ, _-_}
 use lib.Dec.{leb}
 use Rattle.rules.specs.Limits.{fewestZones, mostZones}
 
--- A question of document 01 by its number, and whether its answer is yes.
+-- A question by its number (docs/RULES.md, section 7), and whether its answer is yes.
 pub record Question : Type 0 where
   pub number : ℕ
   pub yes : Bool

@@ -1,5 +1,5 @@
--- The rules of a site: zones, first-in first-out channels ("lines"), and what an accepted call does to them. No limit stands here:
--- neither the number of zones nor the places of a channel nor the length of a journal.
+-- The rules of a site (docs/RULES.md, section 4): zones, first-in first-out channels ("lines"), and what an accepted call does to them. No
+-- limit stands here: neither the number of zones nor the places of a channel nor the length of a journal.
 use mathlib.Core.Bool.{Bool, true, false, _&&_, not}
 use mathlib.Core.List.{List, [], _∷_, tail}
 use Prim.Native.Nat.{ℕ}

@@ -1,4 +1,4 @@
--- The rules of one zone: document 01, "Zones, lines and marks". Zones are named by index: the number less one.
+-- The rules of one zone (docs/RULES.md, section 4). Zones are named by index: the number less one.
 use mathlib.Core.Bool.{Bool, true, false, cond}
 use Prim.Native.Nat.{ℕ, _+_, _-_}
 use lib.Dec.{eqb}

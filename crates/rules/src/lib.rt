@@ -1,7 +1,7 @@
 // The types and limits that the rules of mutable checkpointing speak of. The rules themselves are definitions (specs/), to be read beside
-// document 01, and the theorem over them stands in proofs/; this crate has no function.
+// docs/RULES.md, sections 3 to 5 and demand 3, and the theorem over them stands in proofs/; this crate has no function.
 
-// The limits of document 01 by their names in specs/Limits.antt, each in the type of the number that it bounds.
+// The limits (docs/RULES.md, section 2) by their names in specs/Limits.antt, each in the type of the number that it bounds.
 pub const FEWEST_ZONES: u8 = 2;
 
 pub const MOST_ZONES: u8 = 8;
@@ -31,14 +31,14 @@ pub struct Saved {
     pub events: u16,
 }
 
-// A checkpoint; document 01 calls it a mark: none, provisional (Mutable) or firm (Permanent).
+// A checkpoint ("mark"): none, mutable ("provisional") or permanent ("firm").
 pub enum Checkpoint {
     None,
     Mutable(Saved),
     Permanent(Saved),
 }
 
-// The local state of one zone: what document 01 says that a zone has. Its number and the zone count stand beside it.
+// The local state of one zone (docs/RULES.md, section 3). Its number and the zone count stand beside it.
 pub struct Local {
     pub stock: u16,
     pub deps: u8,

@@ -1,4 +1,4 @@
--- The calls of a site, each as a function from the run to the answer: its questions in document 01's order, then what is accepted.
+-- The calls of a site, each as a function from the run to the answer: its questions in order (docs/RULES.md, section 6), then what it does.
 use mathlib.Core.Bool.{Bool, not, _&&_}
 use mathlib.Core.List.{List, [], _∷_}
 use Prim.Native.Nat.{ℕ, _+_}

@@ -1,4 +1,4 @@
--- Worked examples of the zone part: each row's answer, by the definitions that the contracts cite, is what document 01 says.
+-- Worked examples of the zone part: each row's answer, by the definitions that the contracts cite, is what docs/RULES.md says.
 use mathlib.Core.Path.{_≡_, refl}
 use mathlib.Core.Bool.{Bool, true, false}
 use mathlib.Core.List.{List, [], _∷_}

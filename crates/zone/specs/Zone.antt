@@ -1,4 +1,4 @@
--- The zone part: one zone's state and its steps. Document 01, from "The zone part has the same steps without lines".
+-- The zone part: one zone's state and its steps (docs/RULES.md, sections 6 and 7). "The zone part has the same steps without lines".
 use mathlib.Core.Bool.{Bool, false, not, _&&_, cond}
 use mathlib.Core.List.{[], _∷_}
 use Prim.Native.Nat.{ℕ, _+_}

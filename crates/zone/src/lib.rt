@@ -1,5 +1,5 @@
-// The zone part: one zone's state and its steps, for a controller that has lines of its own. Each step takes the zone and hands back
-// the next one, and answers the number of the first question that was answered no, or 0.
+// The zone part: one zone's state and its steps, for a controller that has lines of its own. Each step takes the zone and hands back the
+// next one, and answers the number of the first question (docs/RULES.md, section 7) that was answered no, or 0.
 ghost use mathlib.Core.Path.{_≡_};
 ghost use Prim.Native.Nat.{_≤_};
 ghost use Rattle.rules.specs.Limits.{mostZones};

@@ -1,4 +1,4 @@
-//! A checker of demand 3 by replay in the plain car park of document 01.
+//! A checker of demand 3 (docs/RULES.md, demand 3) by replay in the plain car park.
 //!
 //! It looks at a run from outside only: the opening stocks, the calls with their numbers, the
 //! recording call's number and bytes, and the present stocks and lines. What each accepted
@@ -50,7 +50,7 @@ pub enum Finding {
     /// The events shown for a recorded zone are not those before its start or mark.
     Events,
     /// A zone that is not recorded is not shown with its opening stock and 0 events. This is
-    /// the section on the recording; demand 3 misses it where the zone has no further events.
+    /// docs/RULES.md, section 5; the replays miss it where the zone has no further events.
     Unrecorded,
 }
 
@@ -89,7 +89,7 @@ enum Item {
     Request(BTreeSet<usize>),
 }
 
-/// The rules of document 01 without stocks, questions and full lines.
+/// The rules (docs/RULES.md, section 4) without stocks, questions and full lines.
 struct Rules {
     heard: Vec<BTreeSet<usize>>,
     firm: Vec<bool>,

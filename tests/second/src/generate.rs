@@ -7,13 +7,13 @@ use crate::random::{cars, finish, stocks, Habits, Random};
 use crate::site::{Call, Run, MOST_RECORDS, PLACES};
 use crate::zone::Mark;
 
-/// Case A of document 01.
+/// Case A of docs/RULES.md.
 pub const CASE_A: [u8; 26] = [
     0x28, 0x09, 0x00, 0x0A, 0x00, 0x14, 0x00, 0x1E, 0x01, 0x04, 0x41, 0x00, 0x11, 0x05, 0x02, 0x02,
     0x88, 0x00, 0x0A, 0x07, 0x4A, 0x00, 0x42, 0x00, 0x48, 0x00,
 ];
 
-/// Case B of document 01.
+/// Case B of docs/RULES.md.
 pub fn case_b() -> Run {
     let (_, mut run) = Run::open(3, &[10, 10, 10]);
     run.hand_over(3, 2, 1);

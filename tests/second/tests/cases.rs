@@ -1,4 +1,4 @@
-//! The cases and edges that document 01 names.
+//! The cases and edges of docs/RULES.md, section 8.
 
 use second::demand3;
 use second::generate::{case_b, CASE_A};
