@@ -1,7 +1,7 @@
 /* What the parts of the Cut Recorder share, in C and in C++: the version, the limits, the refusals and the kinds of a checkpoint. <cut/zone.h>
  * and <cut/site.h> include it.
  *
- * Names have the field's terms; document 01's words stand beside them in quotation marks. */
+ * Names have the field's terms; the words of docs/RULES.md that customers use stand beside them in quotation marks. */
 #ifndef CUT_REFUSAL_H
 #define CUT_REFUSAL_H
 
@@ -25,8 +25,8 @@
 #define CUT_RECORDS_MAX 1000
 #define CUT_CARS_MAX 65535
 
-/* What a call answers: 0, or the number of the first question of its list, from left to right, that is answered no. Here are document 01's
- * questions in their order, each with README.md's words for its no, where "channel" in a name is "line" there. */
+/* What a call answers: 0, or the number of the first question of its list, from left to right, that is answered no. Here are the
+ * questions of docs/RULES.md in their order, each with README.md's words for its no, where "channel" in a name is "line" there. */
 enum cut_refusal {
     CUT_ACCEPTED = 0,
     /* "Is the state sound"? No: the state is not sound, or (recording, journal) not what its journal replays to. */

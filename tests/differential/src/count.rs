@@ -22,7 +22,7 @@ pub enum Entry {
     ZoneNext,
 }
 
-/// Each call, in the order of `Entry`, with the numbers that document 01 lets it give.
+/// Each call, in the order of `Entry`, with the numbers that docs/RULES.md lets it give.
 pub const ENTRIES: [(&str, &[u8]); 15] = [
     ("cut_site_open", &[0, 2, 3, 4]),
     ("cut_site_send", &[0, 1, 5, 6, 7, 8]),

@@ -1,7 +1,7 @@
 //! Makes the peer and the proved code do the same on random and hostile inputs and compares the
 //! answers, every field and every lent byte.
 //!
-//! In two places c/cut/site.h says more than document 01, by which the peer is written: a mark above 2 at
+//! In two places c/cut/site.h says more than the rules, by which the peer is written: a mark above 2 at
 //! an index that the site lacks makes a run unsound (there the peer is not asked), and an accepted
 //! call writes what an unmarked zone has saved as 0 (there these values are not compared).
 

@@ -1,4 +1,4 @@
-//! A peer of the proved code, written for speed: the same calls by the rules of document 01, in
+//! A peer of the proved code, written for speed: the same calls by docs/RULES.md, in
 //! place on lent values, with fixed arrays, no heap and no unsafe code. Every question is asked,
 //! question 1 of every call included; its fuller form is one replay.
 //!
