@@ -1,10 +1,9 @@
 -- A replay that is not refused keeps the number of cars, so the recorded park and the present one have as many cars as the opening.
 use mathlib.Core.Path.{_≡_, refl, sym, _∙_, ap}
 use mathlib.Core.Bool.{Bool, true, false, _&&_, true≢false, false≢true}
-use mathlib.Core.Logic.{_≢_, inl, inr}
 use mathlib.Core.List.{List, [], _∷_, _++_, tail}
 use mathlib.Core.Option.{Option, none, some}
-use Prim.Native.Nat.{ℕ, zero, suc, _+_, _-_, _≤_, _<_}
+use Prim.Native.Nat.{ℕ, _+_, _-_, _≤_, _<_}
 use native.Mathlib.Omega.{arith}
 use lib.Dec.{eqb, leb}
 use borrow.Author.Tests.{leb-true, ne-eqb}
@@ -14,7 +13,8 @@ use Rattle.rules.specs.Site.{Item, message, request, Site, Call, send, r
 use Rattle.rules.specs.Below.{sum, sumBelow}
 use Rattle.rules.specs.Park.{Park, Move, hand, take, openPark, handed, taken, handIf, takeIf, step, replay, isInside, counted, insideFrom, inside, total, Within}
 use Rattle.rules.specs.Cut.{Allowed, run, taking, moveOf, moves, Complete, present, snapshot}
-use Rattle.rules.proofs.Tests.{Same, same?, eqb-refl, other-receiver}
+use Rattle.rules.proofs.Tests.{eqb-refl}
+use Rattle.rules.proofs.Sums.{sum-change, sums-zero, sums-change}
 use Rattle.rules.proofs.Guarded.{on-true, on-false}
 use Rattle.rules.proofs.Lists.{All, keep}
 use Rattle.rules.proofs.Tagged.{Event, TaggedPark, Steps}
@@ -24,44 +24,6 @@ use Rattle.rules.proofs.Kept.{fresh-open, calls-keep}
 use Rattle.rules.proofs.Cutting.{parkOf, plain-park, openT, inFirst, inSecond, cuts-kept, cuts-open}
 use Rattle.rules.proofs.Consistency.{consistent}
 
-sum-same : (n : ℕ) (f g : ℕ → ℕ) → ((k : ℕ) → k < n → f k ≡ g k) → sumBelow n f ≡ sumBelow n g
-sum-same zero f g e = refl
-sum-same (suc n) f g e =
-    let q = sum-same n f g (λ k h. e k (omega arith)) in
-    let w = e n (omega arith) in
-    omega arith
-
--- Two sums that differ at a alone.
-sum-change : (n : ℕ) (f g : ℕ → ℕ) (a : ℕ) → a < n → ((k : ℕ) → k ≢ a → f k ≡ g k) → sumBelow n f + g a ≡ sumBelow n g + f a
-sum-change zero f g a h e = absurd (omega arith)
-sum-change (suc n) f g a h e = go (same? n a) (sum-change n f g a)
-  where
-    go : Same n a → (a < n → ((k : ℕ) → k ≢ a → f k ≡ g k) → sumBelow n f + g a ≡ sumBelow n g + f a)
-        → sumBelow n f + f n + g a ≡ sumBelow n g + g n + f a
-    go (inl q) ih =
-        let w = sum-same n f g (λ k l. e k (λ r. omega (arith, q .0))) in
-        let u : f n ≡ f a = ap f (q .0) in
-        let v : g n ≡ g a = ap g (q .0) in
-        omega arith
-    go (inr q) ih =
-        let l : n ≡ a → ⊥ = q .0 in
-        let w = ih (omega arith) e in
-        let u = e n (q .0) in
-        omega arith
-
--- Two double sums that differ at the channel from a to b alone.
-sums : ℕ → (ℕ → ℕ → ℕ) → ℕ
-sums n f = sumBelow n (λ i. sumBelow n (f i))
-
-sums-change : (n : ℕ) (f g : ℕ → ℕ → ℕ) (a b : ℕ) → a < n → b < n → ((i j : ℕ) → eqb i a && eqb j b ≡ false → f i j ≡ g i j)
-    → sums n f + g a b ≡ sums n g + f a b
-unfolding sums
-sums-change n f g a b ha hb e =
-    let q = sum-change n (f a) (g a) b hb (λ j ne. e a j (other-receiver a b a j ne)) in
-    let w = sum-change n (λ i. sumBelow n (f i)) (λ i. sumBelow n (g i)) a ha
-    (λ i ne. sum-same n (f i) (g i) (λ j _. e i j (ap (λ (t : Bool). t && eqb j b) (ne-eqb i a ne)))) in
-    omega arith
-
 sum-join : (l : List ℕ) (c : ℕ) → sum (join c l) ≡ sum l + c
 sum-join [] c = omega arith
 sum-join (x ∷ l) c = let q = sum-join l c in omega arith
@@ -70,7 +32,6 @@ abbrev cars : Park → ℕ → ℕ → ℕ
 cars p i j = sum (p .channel i j)
 
 handed-total : (n a b c : ℕ) (p : Park) → a < n → b < n → c ≤ p .stock a → total n (handed a b c p) ≡ total n p
-unfolding sums
 handed-total n a b c p ha hb le =
     let s = sum-change n ((handed a b c p) .stock) (p .stock) a ha
     (λ k ne. on-false (eqb k a) (λ v. v - c) (p .stock k) (ne-eqb k a ne)) in
@@ -82,7 +43,6 @@ handed-total n a b c p ha hb le =
     omega arith
 
 taken-total : (n a b c : ℕ) (l : List ℕ) (p : Park) → a < n → b < n → p .channel a b ≡ c ∷ l → total n (taken a b c p) ≡ total n p
-unfolding sums
 taken-total n a b c l p ha hb at =
     let s = sum-change n ((taken a b c p) .stock) (p .stock) b hb
     (λ k ne. on-false (eqb k b) (λ v. v + c) (p .stock k) (ne-eqb k b ne)) in
@@ -129,11 +89,7 @@ conserved n (m ∷ ms) p q w e = go (step m p) refl e (λ r. conserved n ms r q 
 
 -- The cars of the opening.
 open-total : (n : ℕ) (v : Opening) → total n (openPark v) ≡ sumBelow n (v .stocks)
-open-total n v = let q = zeros n (λ i. sumBelow n (λ j. 0)) (λ i. zeros n (λ j. 0) (λ j. refl)) in omega arith
-  where
-    zeros : (n : ℕ) (f : ℕ → ℕ) → ((k : ℕ) → f k ≡ 0) → sumBelow n f ≡ 0
-    zeros zero f e = refl
-    zeros (suc n) f e = let q = zeros n f e in let w = e n in omega arith
+open-total n v = let q = sums-zero n (λ i j. 0) (λ i j. refl) in omega arith
 
 -- The moves inside a recording are moves.
 all-cons-if : (P : Move → Type 0) (p : Bool) (m : Move) (ms : List Move) → P m → All P ms → All P (cons-if p m ms)

@@ -14,6 +14,7 @@ pub mod Cutting
 pub mod Counting
 pub mod Shown
 pub mod Consistency
+pub mod Sums
 pub mod Conservation
 pub mod Finite
 pub mod Members

@@ -11,7 +11,8 @@ use lib.Count.{ones, onesIn, ones-cat, trailingZeros}
 use lib.ListN.{length, length-append}
 use lib.Pow.{pow-lt, pow-mono, pow-pos, mod-pow-add}
 use borrow.Author.Tests.{ne-eqb, eqb-true, eqb-false, lt-ltb, le-ltb, ltb-true, ltb-false}
-use Rattle.rules.specs.Sets.{has, only, union, difference, size, members, membersBelow}
+use Rattle.rules.specs.Below.{sumBelow}
+use Rattle.rules.specs.Sets.{has, nobody, only, union, difference, size, members, membersBelow}
 use Rattle.rules.proofs.Finite.{and-left, and-right, same, below, below₂, from-one}
 
 -- ---- the sets of a site of n zones
@@ -99,6 +100,17 @@ length-below (suc n) s =
 -- The number of zones of a set of a site of n zones.
 pub members-size : (n s : ℕ) → s < 2 ^ n → size s ≡ length (membersBelow n s)
 members-size n s h = ap ones (sym (mod-eq-of-lt h)) ∙ length-below n s
+
+-- It is a sum over the zones.
+length-sum : (n s : ℕ) → length (membersBelow n s) ≡ sumBelow n (λ j. cond (has s j) 1 0)
+length-sum zero s = refl
+length-sum (suc n) s = rw (length-append, length-one, length-sum n s)
+
+pub size-sum : (n s : ℕ) → s < 2 ^ n → size s ≡ sumBelow n (λ j. cond (has s j) 1 0)
+size-sum n s h = members-size n s h ∙ length-sum n s
+
+pub size-nobody : size nobody ≡ 0
+size-nobody = members-size 0 0 (pow-pos 0)
 
 pub members-length : (s : ℕ) → s < 256 → size s ≡ length (members s)
 unfolding members

@@ -315,3 +315,13 @@ flow-open v = record {
 pub due-permanent : (h : History) → ((i j : ℕ) → waits (h .now .channel i j) ≡ false) → (k : ℕ) → Due h k → IsPermanent h k
 due-permanent h e k (inl p) = p
 due-permanent h e k (inr (i, w)) = absurd (true≢false (sym w ∙ e i k))
+
+-- A zone whose checkpoint is not permanent has sent no request that is still on its way.
+pub flow-unsent : (D : ℕ → Type 0) (h : History) → Flow D h → (i j : ℕ) → isPermanent (h .now .zone i .checkpoint) ≡ false
+    → waits (h .now .channel i j) ≡ false
+flow-unsent D h flow i j e = go (h .now .channel i j) (flow .fair i j)
+  where
+    go : (l : List Item) → All (Fair D h i j) l → waits l ≡ false
+    go [] f = refl
+    go (message c flag ∷ l) f = go l (f .1)
+    go (request set ∷ l) f = absurd (true≢false (sym (f .0 .0) ∙ e))
