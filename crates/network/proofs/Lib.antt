@@ -1,3 +1,4 @@
 pub mod Network
 pub mod OffSite
+pub mod Effects
 pub mod Examples

@@ -8,7 +8,7 @@ use mathlib.Core.Option.{Option, none, some}
 use Prim.Native.Nat.{ℕ, suc, _+_, _≤_}
 use native.Mathlib.Omega.{arith}
 use lib.Dec.{eqb, leb}
-use borrow.Author.Tests.{eqb-true, leb-true}
+use borrow.Author.Tests.{eqb-true, leb-true, not-true}
 use Rattle.rules.specs.Change.{on, join, cons-if}
 use Rattle.rules.specs.Opening.{Opening}
 use Rattle.rules.specs.Cut.{May, Allowed, run, Complete, Cut, shownBy, snapshot}
@@ -46,7 +46,8 @@ passed : (qs : List Question) (z : Zone) (x : Step) → lacks 0 (numbers qs) ≡
     → AllYes qs × (ask qs (refused z) x ≡ x)
 passed qs z x n e = ask-accepted (λ (s : Step). s .refusal) qs (refused z) x (λ m. refl) n (eqb-true (ask qs (refused z) x .refusal) 0 e)
 
-send-step : (z : Zone) (to cars : ℕ) → eqb (sendStep z to cars .refusal) 0 ≡ true
+-- What an accepted step answers, and what its questions said.
+pub send-step : (z : Zone) (to cars : ℕ) → eqb (sendStep z to cars .refusal) 0 ≡ true
     → (sendStep z to cars ≡ accepted (withLocal z (sent cars (localOf z))) (hasCheckpoint (z .checkpoint)) nobody nobody) × (cars ≤ z .stock)
 unfolding sendStep
 send-step z to cars e =
@@ -55,23 +56,29 @@ send-step z to cars e =
     z (accepted (withLocal z (sent cars (localOf z))) (hasCheckpoint (z .checkpoint)) nobody nobody) refl e in
     (r .1, leb-true cars (z .stock) (r .0 .1 .1 .1 .0))
 
-receive-step : (z : Zone) (from cars : ℕ) (flag : Bool) → eqb (receiveStep z from cars flag .refusal) 0 ≡ true
+pub receive-step : (z : Zone) (from cars : ℕ) (flag : Bool) → eqb (receiveStep z from cars flag .refusal) 0 ≡ true
     → receiveStep z from cars flag ≡ accepted (withLocal z (received (index from) cars flag (localOf z))) false nobody nobody
 unfolding receiveStep
 receive-step z from cars flag e = passed
     (question 1 (isZoneSound z) ∷ question 5 (isOther z from) ∷ question 6 (hasRoom z) ∷ question 20 (leb (z .stock + cars) mostCars) ∷ [])
     z (accepted (withLocal z (received (index from) cars flag (localOf z))) false nobody nobody) refl e .1
 
-request-step : (z : Zone) (set : ℕ) → eqb (requestStep z set .refusal) 0 ≡ true
-    → requestStep z set ≡ requestingStep z (requestedBy (index (z .number)) set (localOf z))
+pub request-step : (z : Zone) (set : ℕ) → eqb (requestStep z set .refusal) 0 ≡ true
+    → (requestStep z set ≡ requestingStep z (requestedBy (index (z .number)) set (localOf z))) × (isZoneSound z ≡ true)
 unfolding requestStep
-request-step z set e = passed (question 1 (isZoneSound z) ∷ question 5 (within set (z .count)) ∷ []) z
-    (requestingStep z (requestedBy (index (z .number)) set (localOf z))) refl e .1
+request-step z set e =
+    let r = passed (question 1 (isZoneSound z) ∷ question 5 (within set (z .count)) ∷ []) z
+    (requestingStep z (requestedBy (index (z .number)) set (localOf z))) refl e in
+    (r .1, r .0 .0)
 
-start-step : (z : Zone) → eqb (startStep z .refusal) 0 ≡ true → startStep z ≡ requestingStep z (startedBy (index (z .number)) (localOf z))
+pub start-step : (z : Zone) → eqb (startStep z .refusal) 0 ≡ true
+    → (startStep z ≡ requestingStep z (startedBy (index (z .number)) (localOf z))) × (isZoneSound z ≡ true)
+    × (hasCheckpoint (z .checkpoint) ≡ false)
 unfolding startStep
-start-step z e = passed (question 1 (isZoneSound z) ∷ question 11 (not (hasCheckpoint (z .checkpoint))) ∷ []) z
-    (requestingStep z (startedBy (index (z .number)) (localOf z))) refl e .1
+start-step z e =
+    let r = passed (question 1 (isZoneSound z) ∷ question 11 (not (hasCheckpoint (z .checkpoint))) ∷ []) z
+    (requestingStep z (startedBy (index (z .number)) (localOf z))) refl e in
+    (r .1, r .0 .0, not-true (hasCheckpoint (z .checkpoint)) (r .0 .1 .0))
 
 -- The zone at index k has the number k + 1.
 abbrev pub Numbered : Network → Type 0
@@ -134,7 +141,7 @@ requested-site : (net : Network) (a b set : ℕ) → Numbered net → eqb (reque
     → networkSite (stored (receive a b) (requestStep (net .zone b) set) net) ≡ requestS a b set (networkSite net)
 unfolding requestedBy
 requested-site net a b set num e =
-    ap (λ (x : Step). networkSite (stored (receive a b) x net)) (request-step (net .zone b) set e)
+    ap (λ (x : Step). networkSite (stored (receive a b) x net)) (request-step (net .zone b) set e .0)
     ∙ go (isPermanent (net .zone b .checkpoint))
   where
     go : (p : Bool)
@@ -157,7 +164,7 @@ started-site : (net : Network) (a : ℕ) → Numbered net → eqb (startStep (ne
     → networkSite (stored (start a) (startStep (net .zone a)) net) ≡ startS a (networkSite net)
 unfolding startedBy
 started-site net a num e =
-    ap (λ (x : Step). networkSite (stored (start a) x net)) (start-step (net .zone a) e) ∙ requests-site net a nobody started (num a)
+    ap (λ (x : Step). networkSite (stored (start a) x net)) (start-step (net .zone a) e .0) ∙ requests-site net a nobody started (num a)
 
 -- A call that is not accepted changes nothing.
 pub refused-kept : (c : Call) (net : Network) → isAccepted (answer c net) ≡ false → made c net ≡ net
@@ -232,10 +239,10 @@ module _ (f : Zone → ℕ) (fixed : (z : Zone) (l : Local) → f (withLocal z l
           (λ e. zone-kept b x _ (ap (λ (x : Step). x .zone) (receive-step (net .zone b) (a + 1) cars flag e)))
       go (request set ∷ l) =
           let x = requestStep (net .zone b) set in
-          kept-if (receive a b) x (λ e. zone-kept b x _ (ap (λ (x : Step). x .zone) (request-step (net .zone b) set e)))
+          kept-if (receive a b) x (λ e. zone-kept b x _ (ap (λ (x : Step). x .zone) (request-step (net .zone b) set e .0)))
   call-keeps (start a) =
       let x = startStep (net .zone a) in
-      kept-if (start a) x (λ e. zone-kept a x _ (ap (λ (x : Step). x .zone) (start-step (net .zone a) e)))
+      kept-if (start a) x (λ e. zone-kept a x _ (ap (λ (x : Step). x .zone) (start-step (net .zone a) e .0)))
 
 pub numbered : (net : Network) → Numbered net → (c : Call) → Numbered (made c net)
 numbered net num c = call-keeps (λ z. z .number) (λ z l. refl) (λ k. k + 1) net num c
@@ -245,7 +252,7 @@ abbrev begun : Option ℕ → ℕ
 begun none = 0
 begun (some a) = 1
 
-no-checkpoint-not-permanent : (k : Checkpoint) → hasCheckpoint k ≡ false → isPermanent k ≡ false
+pub no-checkpoint-not-permanent : (k : Checkpoint) → hasCheckpoint k ≡ false → isPermanent k ≡ false
 no-checkpoint-not-permanent None e = refl
 no-checkpoint-not-permanent (Mutable s) e = refl
 no-checkpoint-not-permanent (Permanent s) e = e

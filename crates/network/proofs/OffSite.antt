@@ -53,20 +53,24 @@ refused-start z e = rw e
 abbrev pub Counted : ℕ → Network → Type 0
 Counted n net = (k : ℕ) → net .zone k .count ≡ n
 
-refused-off : (n : ℕ) (net : Network) → Numbered net → Counted n net → (c : Call) → n ≤ stepOf c → isAccepted (answer c net) ≡ false
+-- Then a step of a zone whose number is above the count is refused.
+pub refused-off : (n : ℕ) (net : Network) → Numbered net → Counted n net → (c : Call) → n ≤ stepOf c
+    → isAccepted (answer c net) ≡ false
 refused-off n net num same (send a b cars) h = refused-send (net .zone a) (b + 1) cars (unsound (net .zone a) n a (num a) (same a) h)
 refused-off n net num same (receive a b) h =
     refused-take (net .zone b) (a + 1) (net .channel a b) (unsound (net .zone b) n b (num b) (same b) h)
 refused-off n net num same (start a) h = refused-start (net .zone a) (unsound (net .zone a) n a (num a) (same a) h)
 
-kept : (cs : List Call) (n : ℕ) (net : Network) → Numbered net → Counted n net → Numbered (after cs net) × Counted n (after cs net)
-kept [] n net num same = (num, same)
-kept (c ∷ cs) n net num same =
-    kept cs n (made c net) (numbered net num c) (call-keeps (λ z. z .count) (λ z l. refl) (λ k. n) net same c)
+-- Calls keep the numbers and the counts.
+pub numbers-kept : (cs : List Call) (n : ℕ) (net : Network) → Numbered net → Counted n net
+    → Numbered (after cs net) × Counted n (after cs net)
+numbers-kept [] n net num same = (num, same)
+numbers-kept (c ∷ cs) n net num same =
+    numbers-kept cs n (made c net) (numbered net num c) (call-keeps (λ z. z .count) (λ z l. refl) (λ k. n) net same c)
 
 -- After whatever calls, a step of a zone whose number is above the count is refused.
 pub off-site : (n : ℕ) (o : Opening) (cs : List Call) (c : Call) → n ≤ stepOf c
     → isAccepted (answer c (after cs (openNetwork n o))) ≡ false
 off-site n o cs c h =
-    let r = kept cs n (openNetwork n o) (λ k. refl) (λ k. refl) in
+    let r = numbers-kept cs n (openNetwork n o) (λ k. refl) (λ k. refl) in
     refused-off n (after cs (openNetwork n o)) (r .0) (r .1) c h
