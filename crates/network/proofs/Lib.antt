@@ -1,4 +1,5 @@
 pub mod Network
 pub mod OffSite
 pub mod Effects
+pub mod Balance
 pub mod Examples
