@@ -2,4 +2,6 @@ pub mod Network
 pub mod OffSite
 pub mod Effects
 pub mod Balance
+pub mod Quiet
+pub mod Polls
 pub mod Examples
