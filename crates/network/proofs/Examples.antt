@@ -1,21 +1,29 @@
--- A network of two zones whose recording is complete: the premises of its theorem can be met.
+-- A network of two zones whose recording is complete, and one of four zones that a collector polls: the premises of the theorems can be
+-- met, and one round of polls is not enough.
 use mathlib.Core.Path.{_≡_, refl, sym, _∙_, ap, subst}
 use mathlib.Core.Bool.{Bool, true, false, _&&_, cond, and-false}
-use mathlib.Core.List.{List, [], _∷_, tail}
+use mathlib.Core.List.{List, [], _∷_, _++_, tail}
 use Prim.Native.Nat.{ℕ, _≤_}
 use native.Mathlib.Omega.{arith}
-use lib.Dec.{eqb}
+use lib.Count.{ones, onesIn}
+use lib.Dec.{eqb, leb, ltb, eqb→eq, leb→le, lit<}
 use Rattle.rules.specs.Opening.{Opening}
+use Rattle.rules.specs.Below.{sumBelow}
 use Rattle.rules.specs.Change.{on, join}
-use Rattle.rules.specs.Cut.{Complete, Cut, snapshot}
+use Rattle.rules.specs.Cut.{Complete, Cut, Snapshot, shownBy, snapshot}
+use Rattle.rules.specs.Park.{total}
 use Rattle.rules.specs.Questions.{isCount, isOn}
 use Rattle.rules.specs.Sets.{has}
 use Rattle.rules.specs.Site.{Item, message, request, Call, send, receive, start, waits}
+use Rattle.rules.specs.Zone.{isPermanent}
+use Rattle.rules.proofs.Finite.{below}
 use Rattle.rules.proofs.SetLaws.{has-only, has-nobody}
 use Rattle.local.specs.Requesting.{requestedBy, startedBy}
 use Rattle.zone.specs.Zone.{isZoneSound, isOther, sendStep, receiveStep, requestStep, startStep}
 use Rattle.network.specs.Network.{openNetwork, after, acceptedCalls, startsIn, networkSite}
+use Rattle.network.specs.Polls.{Poll, polledAt, OneAfterAnother, Settled, polledSite}
 use Rattle.network.proofs.Network.{network-consistent}
+use Rattle.network.proofs.Polls.{settled-cut}
 
 -- Zone 2 is opened full.
 abbrev opening : Opening
@@ -63,3 +71,73 @@ complete = ((1, refl), λ i j. ap waits (empty-channel i j))
 pub example-cut : Cut opening acceptedOnes (snapshot opening acceptedOnes)
 example-cut = subst (λ (cs : List Call). Cut opening cs (snapshot opening cs)) accepted-ones
     (network-consistent 2 opening calls (subst (λ (cs : List Call). startsIn cs ≤ 1) (sym accepted-ones) (omega arith)) complete)
+
+-- ---- polls
+
+-- Four zones of 10 cars. Zone 2 depends on zones 3 and 4, and zone 1, which got 5 cars of it, on zone 2. Zone 1 starts; zone 2 takes its
+-- request and sends requests to zones 3 and 4; zone 3 takes its own.
+abbrev tens : Opening
+tens = record { stocks = λ k. 10 }
+
+abbrev fewCalls : List Call
+fewCalls =
+    send 2 1 0 ∷ receive 2 1 ∷ send 3 1 0 ∷ receive 3 1 ∷ send 1 0 5 ∷ receive 1 0 ∷ start 0 ∷ receive 0 1 ∷ receive 1 2 ∷ []
+
+-- One round: zones 1 and 2 are polled behind the start, zones 3 and 4 at the end, when zone 2 has taken one request and sent two.
+abbrev oneRound : ℕ → Poll
+oneRound k = polledAt fewCalls (openNetwork 4 tens) (cond (ltb k 2) 7 9) k
+
+abbrev roundShown : Snapshot
+roundShown = shownBy tens (acceptedCalls fewCalls (openNetwork 4 tens)) (polledSite oneRound)
+
+-- By what was read one request was sent and one was taken, and zone 1 is permanent. Yet a request waits for zone 4, and the 5 cars are
+-- shown in zone 1 and in zone 2.
+pub one-round-is-not-enough : (sumBelow 4 (λ k. oneRound k .sent) ≡ 1) × (sumBelow 4 (λ k. oneRound k .taken) ≡ 1)
+    × (isPermanent (oneRound 0 .zone .checkpoint) ≡ true) × (waits (after fewCalls (openNetwork 4 tens) .channel 1 3) ≡ true)
+    × (total 4 (roundShown .park) ≡ 45) × (sumBelow 4 (tens .stocks) ≡ 40)
+unfolding isCount isOn isZoneSound isOther sendStep receiveStep requestStep startStep requestedBy startedBy has ones onesIn
+one-round-is-not-enough = (refl, refl, refl, refl, refl, refl)
+
+-- Then zone 4 takes its request, and the traffic goes on while two rounds are made: a car leaves zone 1 and comes to zone 3 between the
+-- two polls of each.
+abbrev moreCalls : List Call
+moreCalls = fewCalls ++ (receive 1 3 ∷ send 0 2 1 ∷ receive 0 2 ∷ [])
+
+abbrev firstRound : ℕ → ℕ
+firstRound k = cond (ltb k 2) 10 11
+
+abbrev secondRound : ℕ → ℕ
+secondRound k = cond (ltb k 2) 11 12
+
+two-rounds : OneAfterAnother 4 firstRound secondRound
+two-rounds = (
+  11,
+  λ k h. (leb→le _ _ (below 4 (λ k. leb (firstRound k) 11) tt k h), leb→le _ _ (below 4 (λ k. leb 11 (secondRound k)) tt k h)),
+)
+
+abbrev polled : (ℕ → ℕ) → ℕ → Poll
+polled round k = polledAt moreCalls (openNetwork 4 tens) (round k) k
+
+two-settled : Settled 4 (polled firstRound) (polled secondRound)
+unfolding isCount isOn isZoneSound isOther sendStep receiveStep requestStep startStep requestedBy startedBy has ones onesIn
+two-settled = record {
+  sent-kept = λ k h. eqb→eq _ _ (below 4 (λ k. eqb (polled firstRound k .sent) (polled secondRound k .sent)) tt k h);
+  taken-kept = λ k h. eqb→eq _ _ (below 4 (λ k. eqb (polled firstRound k .taken) (polled secondRound k .taken)) tt k h);
+  all-taken = refl;
+  begun = (0, lit< tt, refl);
+}
+
+one-start : startsIn (acceptedCalls moreCalls (openNetwork 4 tens)) ≤ 1
+unfolding isCount isOn isZoneSound isOther sendStep receiveStep requestStep startStep requestedBy startedBy has
+one-start = leb→le _ 1 tt
+
+abbrev roundsShown : Snapshot
+roundsShown = shownBy tens (acceptedCalls moreCalls (openNetwork 4 tens)) (polledSite (polled secondRound))
+
+-- Two rounds that are settled: what the second read is a consistent cut, with the 40 cars.
+pub two-rounds-cut : Cut tens (acceptedCalls moreCalls (openNetwork 4 tens)) roundsShown
+two-rounds-cut = settled-cut 4 tens moreCalls one-start firstRound secondRound two-rounds two-settled
+
+pub two-rounds-total : total 4 (roundsShown .park) ≡ 40
+unfolding isCount isOn isZoneSound isOther sendStep receiveStep requestStep startStep requestedBy startedBy has
+two-rounds-total = refl
