@@ -2,7 +2,7 @@
 -- by it at once, so that a later word changes no earlier one.
 use mathlib.Core.Path.{_≡_, refl, sym, _∙_, ap}
 use mathlib.Core.Bool.{Bool, true, false, cond}
-use mathlib.Core.Logic.{_≢_, _⊎_, inl, inr}
+use mathlib.Core.Logic.{_≢_, inl, inr}
 use mathlib.Core.List.{List, [], _∷_, _++_}
 use Prim.Native.Nat.{ℕ, zero, suc, _+_, _-_, _*_, _/_, _%_, _<_, _≤_, min}
 use native.Mathlib.Numerals.{add-one}
@@ -18,7 +18,8 @@ use Rattle.words.proofs.ByteLaws.{bytes-length}
 use Rattle.words.proofs.WriteLaws.{wrote-more, put-two}
 use Rattle.rules.proofs.Tests.{Same, same?}
 use Rattle.rules.specs.Below.{sumBelow}
-use Rattle.run.proofs.BelowLaws.{split, sum-same, sum-changed, sum-end}
+use Rattle.rules.proofs.Sums.{sum-same, sum-none, sum-change}
+use Rattle.run.proofs.BelowLaws.{sum-end}
 use Rattle.channel.specs.Channels.{isChannel}
 use Rattle.recording.specs.Layout.{joinBelow}
 use Rattle.recording.specs.InnerRecords.{sentWords}
@@ -133,7 +134,7 @@ module _ {start : ℕ → ℕ} {shown ws ns all out ends : List ℕ} {missing i 
           fewer : sumBelow 64 (λ k. getD (set ends (high + 1) (end - 1)) (k + 1) 0 - start k) + (end - start high)
               ≡ sumBelow 64 (λ k. getD ends (k + 1) 0 - start k) + (getD (set ends (high + 1) (end - 1)) (high + 1) 0 - start high)
           fewer =
-              sum-changed 64 (λ k. getD ends (k + 1) 0 - start k) (λ k. getD (set ends (high + 1) (end - 1)) (k + 1) 0 - start k) high (low g)
+              sum-change 64 (λ k. getD (set ends (high + 1) (end - 1)) (k + 1) 0 - start k) (λ k. getD ends (k + 1) 0 - start k) high (low g)
               (λ k b n. ap (λ (x : ℕ). x - start k) (other k (λ q. n (sym q))))
 
           end-at : (k : ℕ) → k < 64 → Same high k → Ended start shown ws ns (set ends (high + 1) (end - 1)) i k
@@ -156,15 +157,6 @@ within start {P} p (suc n) a b f = go (leb (2 * start n) p) refl (within start p
     go : (x : Bool) → leb (2 * start n) p ≡ x → (p < 2 * start n → ((k : ℕ) → k < n → 2 * start k ≤ p → p < 2 * start (suc k) → P) → P) → P
     go true e more = f n (omega arith) (leb-true _ _ e) b
     go false e more = more (leb-false _ _ e) (λ k h s q. f k (omega arith) s q)
-
--- A sum of 0 is one of zeros.
-sum-none : (n : ℕ) (f : ℕ → ℕ) → sumBelow n f ≡ 0 → (k : ℕ) → k < n → f k ≡ 0
-sum-none zero f e k h = absurd (omega arith)
-sum-none (suc n) f e k h = go (split k n h) (sum-none n f (omega (arith, e)) k)
-  where
-    go : (k < n) ⊎ (k ≡ n) → (k < n → f k ≡ 0) → f k ≡ 0
-    go (inl b) more = more b
-    go (inr b) more = rw b (omega (arith, e))
 
 -- No item is missing.
 walked-all : {start : ℕ → ℕ} {shown ws ns all out ends : List ℕ} {missing i : ℕ} → Walked start shown ws ns all out ends missing i
@@ -258,7 +250,7 @@ module _ {count : ℕ} {seen shown ws ns begins o : List ℕ} (z : Known count s
       missing-is : beginAt count seen 64 ≡ sumBelow 64 (λ k. getD begins (k + 1) 0 - beginAt count seen k)
       missing-is =
           begin-sum count seen 64
-          ∙ sym (sum-same 64 (numberAt count seen) (λ k. getD begins (k + 1) 0 - beginAt count seen k) (λ k h. omega (arith, end-at k h, begin-next count seen k)))
+          ∙ sym (sum-same 64 (λ k. getD begins (k + 1) 0 - beginAt count seen k) (numberAt count seen) (λ k h. omega (arith, end-at k h, begin-next count seen k)))
 
       behind : (p : ℕ) → 2 * beginAt count seen 64 ≤ p → Right (final count seen shown ws ns o) o p
       behind p h =

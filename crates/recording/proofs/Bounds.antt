@@ -31,8 +31,8 @@ use Rattle.run.specs.Lists.{callOf}
 use Rattle.run.specs.Model.{siteOf}
 use Rattle.run.specs.State.{zoneAt, isSound, countOf}
 use Rattle.run.specs.declared.Run.{Run}
-use Rattle.run.proofs.BelowLaws.{list-at, sum-same}
-use Rattle.run.proofs.Facts.{sum-at}
+use Rattle.rules.proofs.Sums.{sum-same, sum-zero, sum-both, sum-at, sum-le}
+use Rattle.run.proofs.BelowLaws.{list-at}
 use Rattle.run.proofs.Outcome.{passed, is-open}
 use Rattle.run.proofs.Parts.{zone-on, SoundRun, parts}
 use Rattle.run.proofs.Refine.{refine}
@@ -65,31 +65,19 @@ one-index (suc n) x p = go (one-index n x p) (same? x n)
     go h (inl e) = rw (no-index n x p (omega (arith, e .0)), e .1) (omega (arith, at-most (p n)))
     go h (inr e) = rw (e .1) (omega arith)
 
-sum-plus : (n : ℕ) (f g : ℕ → ℕ) → sumBelow n (λ k. f k + g k) ≡ sumBelow n f + sumBelow n g
-sum-plus zero f g = refl
-sum-plus (suc n) f g = let q = sum-plus n f g in omega arith
-
-sum-le : (n : ℕ) (f g : ℕ → ℕ) → ((k : ℕ) → k < n → f k ≤ g k) → sumBelow n f ≤ sumBelow n g
-sum-le zero f g h = omega arith
-sum-le (suc n) f g h = let q = sum-le n f g (λ k b. h k (omega arith)) in let e = h n (omega arith) in omega arith
-
 length-cons-if : (b : Bool) (x : ℕ) (xs : List ℕ) → length (cons-if b x xs) ≡ cond b 1 0 + length xs
 length-cons-if true x xs = omega arith
 length-cons-if false x xs = omega arith
 
-none-sum : (n : ℕ) → sumBelow n (λ k. 0) ≡ 0
-none-sum zero = refl
-none-sum (suc n) = let q = none-sum n in omega arith
-
 sent-few : (n : ℕ) (sh ws ns : List ℕ) → sumBelow n (λ k. length (sentWords k sh ws ns)) ≤ length ws
-sent-few n sh [] ns = omega (arith, none-sum n)
-sent-few n sh (w ∷ ws) [] = omega (arith, none-sum n)
+sent-few n sh [] ns = omega (arith, sum-zero n (λ k. 0) (λ k. refl))
+sent-few n sh (w ∷ ws) [] = omega (arith, sum-zero n (λ k. 0) (λ k. refl))
 sent-few n sh (w ∷ ws) (x ∷ ns) =
     let one : ℕ → ℕ = λ k. cond (sendsOn k sh w x) 1 0 in
     let more : ℕ → ℕ = λ k. length (sentWords k sh ws ns) in
     let e : sumBelow n (λ k. length (cons-if (sendsOn k sh w x) w (sentWords k sh ws ns))) ≡ sumBelow n (λ k. one k + more k) =
     sum-same n _ _ (λ k h. length-cons-if (sendsOn k sh w x) w (sentWords k sh ws ns)) in
-    omega (arith, sum-plus n one more, one-index n (w / 256) (λ k. isIn x (getD sh (k / 8) 0)), sent-few n sh ws ns)
+    omega (arith, sum-both n one more, one-index n (w / 256) (λ k. isIn x (getD sh (k / 8) 0)), sent-few n sh ws ns)
 
 -- Of each word on a channel the high byte is the channel's index.
 sent-on : (k : ℕ) (sh ws ns : List ℕ) → All (λ w. w / 256 ≡ k) (sentWords k sh ws ns)

@@ -34,7 +34,7 @@ cars p i j = sum (p .channel i j)
 handed-total : (n a b c : ℕ) (p : Park) → a < n → b < n → c ≤ p .stock a → total n (handed a b c p) ≡ total n p
 handed-total n a b c p ha hb le =
     let s = sum-change n ((handed a b c p) .stock) (p .stock) a ha
-    (λ k ne. on-false (eqb k a) (λ v. v - c) (p .stock k) (ne-eqb k a ne)) in
+    (λ k _ ne. on-false (eqb k a) (λ v. v - c) (p .stock k) (ne-eqb k a ne)) in
     let s′ : (handed a b c p) .stock a ≡ p .stock a - c = on-true (eqb a a) (λ v. v - c) (p .stock a) (eqb-refl a) in
     let t = sums-change n (cars (handed a b c p)) (cars p) a b ha hb
     (λ i j e. ap sum (on-false (eqb i a && eqb j b) (join c) (p .channel i j) e)) in
@@ -45,7 +45,7 @@ handed-total n a b c p ha hb le =
 taken-total : (n a b c : ℕ) (l : List ℕ) (p : Park) → a < n → b < n → p .channel a b ≡ c ∷ l → total n (taken a b c p) ≡ total n p
 taken-total n a b c l p ha hb at =
     let s = sum-change n ((taken a b c p) .stock) (p .stock) b hb
-    (λ k ne. on-false (eqb k b) (λ v. v + c) (p .stock k) (ne-eqb k b ne)) in
+    (λ k _ ne. on-false (eqb k b) (λ v. v + c) (p .stock k) (ne-eqb k b ne)) in
     let s′ : (taken a b c p) .stock b ≡ p .stock b + c = on-true (eqb b b) (λ v. v + c) (p .stock b) (eqb-refl b) in
     let t = sums-change n (cars (taken a b c p)) (cars p) a b ha hb
     (λ i j e. ap sum (on-false (eqb i a && eqb j b) tail (p .channel i j) e)) in

@@ -2,7 +2,7 @@
 use mathlib.Core.Path.{_≡_, refl, _∙_, ap}
 use mathlib.Core.Bool.{Bool, false, _&&_}
 use mathlib.Core.Logic.{_≢_, inl, inr}
-use Prim.Native.Nat.{ℕ, zero, suc, _+_, _<_}
+use Prim.Native.Nat.{ℕ, zero, suc, _+_, _<_, _≤_}
 use native.Mathlib.Omega.{arith}
 use lib.Dec.{eqb}
 use borrow.Author.Tests.{ne-eqb}
@@ -23,14 +23,24 @@ sum-zero (suc n) f e =
     let w = e n in
     omega arith
 
--- Where a sum is 0, so is each of its terms.
-pub sum-none : (n : ℕ) (f : ℕ → ℕ) → sumBelow n f ≡ 0 → (k : ℕ) → k < n → f k ≡ 0
-sum-none zero f e k h = absurd (omega arith)
-sum-none (suc n) f e k h = go (same? k n) (sum-none n f (omega arith) k)
+-- A sum is not less than any of its terms; so where it is 0, each of them is.
+pub sum-at : (n : ℕ) (f : ℕ → ℕ) (k : ℕ) → k < n → f k ≤ sumBelow n f
+sum-at zero f k h = absurd (omega arith)
+sum-at (suc n) f k h = go (same? k n) (sum-at n f k)
   where
-    go : Same k n → (k < n → f k ≡ 0) → f k ≡ 0
-    go (inl q) ih = ap f (q .0) ∙ omega arith
-    go (inr q) ih = ih (omega (arith, q .0))
+    go : Same k n → (k < n → f k ≤ sumBelow n f) → f k ≤ sumBelow n f + f n
+    go (inl q) ih = let e = ap f (q .0) in omega arith
+    go (inr q) ih = let s = ih (omega (arith, q .0)) in omega arith
+
+pub sum-none : (n : ℕ) (f : ℕ → ℕ) → sumBelow n f ≡ 0 → (k : ℕ) → k < n → f k ≡ 0
+sum-none n f e k h = let s = sum-at n f k h in omega arith
+
+pub sum-le : (n : ℕ) (f g : ℕ → ℕ) → ((k : ℕ) → k < n → f k ≤ g k) → sumBelow n f ≤ sumBelow n g
+sum-le zero f g h = omega arith
+sum-le (suc n) f g h =
+    let q = sum-le n f g (λ k b. h k (omega arith)) in
+    let e = h n (omega arith) in
+    omega arith
 
 -- Terms of two parts are summed part by part.
 pub sum-both : (n : ℕ) (f g : ℕ → ℕ) → sumBelow n (λ k. f k + g k) ≡ sumBelow n f + sumBelow n g
@@ -38,27 +48,28 @@ sum-both zero f g = refl
 sum-both (suc n) f g = let q = sum-both n f g in omega arith
 
 -- Two sums that differ at a alone.
-pub sum-change : (n : ℕ) (f g : ℕ → ℕ) (a : ℕ) → a < n → ((k : ℕ) → k ≢ a → f k ≡ g k) → sumBelow n f + g a ≡ sumBelow n g + f a
+pub sum-change : (n : ℕ) (f g : ℕ → ℕ) (a : ℕ) → a < n → ((k : ℕ) → k < n → k ≢ a → f k ≡ g k)
+    → sumBelow n f + g a ≡ sumBelow n g + f a
 sum-change zero f g a h e = absurd (omega arith)
-sum-change (suc n) f g a h e = go (same? n a) (sum-change n f g a)
+sum-change (suc n) f g a h e = go (same? n a) (λ b. sum-change n f g a b (λ k l d. e k (omega arith) d))
   where
-    go : Same n a → (a < n → ((k : ℕ) → k ≢ a → f k ≡ g k) → sumBelow n f + g a ≡ sumBelow n g + f a)
+    go : Same n a → (a < n → sumBelow n f + g a ≡ sumBelow n g + f a)
         → sumBelow n f + f n + g a ≡ sumBelow n g + g n + f a
     go (inl q) ih =
-        let w = sum-same n f g (λ k l. e k (λ r. omega (arith, q .0))) in
+        let w = sum-same n f g (λ k l. e k (omega arith) (λ r. omega (arith, q .0))) in
         let u : f n ≡ f a = ap f (q .0) in
         let v : g n ≡ g a = ap g (q .0) in
         omega arith
     go (inr q) ih =
         let l : n ≡ a → ⊥ = q .0 in
-        let w = ih (omega arith) e in
-        let u = e n (q .0) in
+        let w = ih (omega arith) in
+        let u = e n (omega arith) (q .0) in
         omega arith
 
 -- A sum whose terms are 0 but for that at a.
 pub sum-one : (n : ℕ) (f : ℕ → ℕ) (a : ℕ) → a < n → ((k : ℕ) → k ≢ a → f k ≡ 0) → sumBelow n f ≡ f a
 sum-one n f a h e =
-    let q = sum-change n f (λ k. 0) a h e in
+    let q = sum-change n f (λ k. 0) a h (λ k _. e k) in
     let w = sum-zero n (λ k. 0) (λ k. refl) in
     omega arith
 
@@ -82,7 +93,7 @@ sums-both n f g = sum-same n _ _ (λ i _. sum-both n (f i) (g i)) ∙ sum-both n
 pub sums-change : (n : ℕ) (f g : ℕ → ℕ → ℕ) (a b : ℕ) → a < n → b < n → ((i j : ℕ) → eqb i a && eqb j b ≡ false → f i j ≡ g i j)
     → sums n f + g a b ≡ sums n g + f a b
 sums-change n f g a b ha hb e =
-    let q = sum-change n (f a) (g a) b hb (λ j ne. e a j (other-receiver a b a j ne)) in
+    let q = sum-change n (f a) (g a) b hb (λ j _ ne. e a j (other-receiver a b a j ne)) in
     let w = sum-change n (λ i. sumBelow n (f i)) (λ i. sumBelow n (g i)) a ha
-    (λ i ne. sum-same n (f i) (g i) (λ j _. e i j (ap (λ (t : Bool). t && eqb j b) (ne-eqb i a ne)))) in
+    (λ i _ ne. sum-same n (f i) (g i) (λ j _. e i j (ap (λ (t : Bool). t && eqb j b) (ne-eqb i a ne)))) in
     omega arith

@@ -1,7 +1,7 @@
--- Laws of tests, sums and lists over the numbers below n.
+-- Laws of tests and lists over the numbers below n, and of sums over a growing bound; other laws of sums: the rules' Sums.
 use mathlib.Core.Path.{_≡_, refl, sym, _∙_, ap}
 use mathlib.Core.Bool.{Bool, true, false, _&&_, _||_, and-true, and-assoc}
-use mathlib.Core.Logic.{_≢_, _⊎_, inl, inr}
+use mathlib.Core.Logic.{_⊎_, inl, inr}
 use mathlib.Core.List.{List, [], _∷_, _++_}
 use Prim.Native.Nat.{ℕ, zero, suc, _+_, _<_, _≤_}
 use native.Mathlib.Numerals.{add-one}
@@ -43,31 +43,6 @@ any-none (suc n) f e i h = go (λ b. any-none n f (or-off-left (anyBelow n f) (f
 pub any-of-none : (n : ℕ) (f : ℕ → Bool) → ((i : ℕ) → i < n → f i ≡ false) → anyBelow n f ≡ false
 any-of-none zero f h = refl
 any-of-none (suc n) f h = rw (any-of-none n f (λ i b. h i (omega arith))) (h n (omega arith))
-
--- Sums of equal numbers; and of numbers of which one differs, at place a.
-pub sum-same : (n : ℕ) (f g : ℕ → ℕ) → ((i : ℕ) → i < n → g i ≡ f i) → sumBelow n g ≡ sumBelow n f
-sum-same zero f g h = refl
-sum-same (suc n) f g h =
-    let q = sum-same n f g (λ i b. h i (omega arith)) in
-    let e = h n (omega arith) in
-    omega arith
-
-pub sum-changed : (n : ℕ) (f g : ℕ → ℕ) (a : ℕ) → a < n → ((i : ℕ) → i < n → i ≢ a → g i ≡ f i)
-    → sumBelow n g + f a ≡ sumBelow n f + g a
-sum-changed zero f g a h k = absurd (not-suc-le-zero h)
-sum-changed (suc n) f g a h k = go (λ b. sum-changed n f g a b (λ i c d. k i (omega arith) d)) (split a n h)
-  where
-    go : (a < n → sumBelow n g + f a ≡ sumBelow n f + g a) → (a < n) ⊎ (a ≡ n)
-        → sumBelow n g + g n + f a ≡ sumBelow n f + f n + g a
-    go more (inl b) =
-        let q = more b in
-        let e = k n (omega arith) (λ d. omega arith) in
-        omega arith
-    go more (inr b) =
-        let q = sum-same n f g (λ i c. k i (omega arith) (λ d. omega arith)) in
-        let e = ap f b in
-        let d = ap g b in
-        omega arith
 
 -- The sum of a list by its places.
 front : (n : ℕ) (f : ℕ → ℕ) → sumBelow (suc n) f ≡ f 0 + sumBelow n (λ i. f (suc i))

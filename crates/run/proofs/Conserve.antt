@@ -26,7 +26,8 @@ use Rattle.run.specs.Claims.{WholeRun, Typed, AllTyped, allCars}
 use Rattle.run.specs.declared.Run.{Run}
 use Rattle.run.specs.declared.Answer.{Answer}
 use Rattle.run.proofs.Outcome.{Pair, Sited, sited, Passed, Refused, outcome, is-open, Fitting}
-use Rattle.run.proofs.BelowLaws.{sum-same, sum-changed, sum-list}
+use Rattle.rules.proofs.Sums.{sum-same, sum-change}
+use Rattle.run.proofs.BelowLaws.{sum-list}
 use Rattle.run.proofs.Parts.{stocksS, carsS, stocks-are, cars-are, parts}
 use Rattle.run.proofs.Whole.{call-whole, open-whole}
 use Rattle.run.proofs.Refine.{refine, opened-site}
@@ -41,7 +42,7 @@ cars-join x (y ∷ ys) = let q = cars-join x ys in omega arith
 -- Only zone a differs, or only the channel from a to b.
 zone-sum : (n a : ℕ) (s t : Site) → a < n → ((k : ℕ) → eqb k a ≡ false → t .zone k .stock ≡ s .zone k .stock)
     → stocksS n t + s .zone a .stock ≡ stocksS n s + t .zone a .stock
-zone-sum n a s t h e = sum-changed n (λ k. s .zone k .stock) (λ k. t .zone k .stock) a h (λ k b d. e k (ne-eqb k a d))
+zone-sum n a s t h e = sum-change n (λ k. t .zone k .stock) (λ k. s .zone k .stock) a h (λ k b d. e k (ne-eqb k a d))
 
 channel-sum : (a b : ℕ) (s t : Site) → a < 8 → b < 8
     → ((i j : ℕ) → eqb i a && eqb j b ≡ false → carsOf (t .channel i j) ≡ carsOf (s .channel i j))
@@ -52,7 +53,7 @@ channel-sum a b s t ha hb e =
     let y : (a * 8 + b) % 8 ≡ b = omega arith in
     subst (λ (i : ℕ). carsS t + carsOf (s .channel i b) ≡ carsS s + carsOf (t .channel i b)) x
     (subst (λ (j : ℕ). carsS t + carsOf (s .channel (channelIndex a b / 8) j) ≡ carsS s + carsOf (t .channel (channelIndex a b / 8) j)) y
-    (sum-changed 64 (λ k. carsOf (s .channel (k / 8) (k % 8))) (λ k. carsOf (t .channel (k / 8) (k % 8))) (channelIndex a b) (omega arith)
+    (sum-change 64 (λ k. carsOf (t .channel (k / 8) (k % 8))) (λ k. carsOf (s .channel (k / 8) (k % 8))) (channelIndex a b) (omega arith)
     (λ k h d. e (k / 8) (k % 8) (other k d))))
   where
     other : (k : ℕ) → k ≢ channelIndex a b → eqb (k / 8) a && eqb (k % 8) b ≡ false
@@ -64,12 +65,12 @@ channel-sum a b s t ha hb e =
 
 -- No stock differs, or the cars of no channel.
 stocks-same : (n : ℕ) (s t : Site) → ((k : ℕ) → t .zone k .stock ≡ s .zone k .stock) → stocksS n t ≡ stocksS n s
-stocks-same n s t e = sum-same n (λ k. s .zone k .stock) (λ k. t .zone k .stock) (λ k h. e k)
+stocks-same n s t e = sum-same n (λ k. t .zone k .stock) (λ k. s .zone k .stock) (λ k h. e k)
 
 cars-same : (s t : Site) → ((i j : ℕ) → carsOf (t .channel i j) ≡ carsOf (s .channel i j)) → carsS t ≡ carsS s
 unfolding carsS
 cars-same s t e =
-    sum-same 64 (λ k. carsOf (s .channel (k / 8) (k % 8))) (λ k. carsOf (t .channel (k / 8) (k % 8))) (λ k h. e (k / 8) (k % 8))
+    sum-same 64 (λ k. carsOf (t .channel (k / 8) (k % 8))) (λ k. carsOf (s .channel (k / 8) (k % 8))) (λ k h. e (k / 8) (k % 8))
 
 -- The cars of a site: its stocks and what is on its channels.
 abbrev total : ℕ → Site → ℕ

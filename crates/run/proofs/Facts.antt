@@ -1,10 +1,9 @@
 -- What a yes to question 1 says of a run's parts.
 use mathlib.Core.Path.{_≡_, _∙_, ap}
 use mathlib.Core.Bool.{Bool, true, _&&_, _||_, not, cond}
-use mathlib.Core.Logic.{_≢_, _⊎_, ⊎-elim}
+use mathlib.Core.Logic.{_≢_}
 use mathlib.Core.List.{List, [], _∷_, map}
-use Prim.Native.Nat.{ℕ, zero, suc, _+_, _-_, _*_, _/_, _%_, _^_, _<_, _≤_}
-use native.Mathlib.Nat.{eq-or-lt-of-le, le-of-suc-le-suc}
+use Prim.Native.Nat.{ℕ, _+_, _*_, _/_, _%_, _^_, _<_, _≤_}
 use native.Mathlib.Omega.{arith}
 use lib.Dec.{leb, ltb, eqb}
 use lib.ListN.{getD, take, drop}
@@ -18,17 +17,10 @@ use Rattle.rules.proofs.Tests.{and-left, and-right}
 use Rattle.channel.specs.Words.{itemOf, carsIn, setIn}
 use Rattle.channel.specs.Channels.{channelIndex, lenOf, wordsOn, itemsOn, firstOf, isChannel}
 use Rattle.channel.specs.declared.Channels.{Channels}
-use Rattle.rules.specs.Below.{sumBelow}
+use Rattle.rules.proofs.Sums.{sum-at}
 use Rattle.run.proofs.BelowLaws.{all-at}
 use Rattle.run.specs.State.{zoneAt, localSound, localsSound, setsWithin, channelSound, channelsSound, carsOf, stocks, carsOnChannels, partsSound, countOf, termsOf}
 use Rattle.run.specs.declared.Head.{Head}
-
--- A sum over the numbers below n, at one number.
-pub sum-at : (n : ℕ) (f : ℕ → ℕ) (i : ℕ) → i < n → f i ≤ sumBelow n f
-sum-at zero f i h = absurd (omega arith)
-sum-at (suc n) f i h =
-    ⊎-elim (λ (q : i ≡ n). let e = ap f q in omega arith) (λ (q : i < n). let s = sum-at n f i q in omega arith)
-    (eq-or-lt-of-le (le-of-suc-le-suc h))
 
 -- The channel of two zones, by their indices.
 pub channel-is : (count a b : ℕ) → b < 8 → isChannel count (channelIndex a b) ≡ ltb a count && ltb b count && not (eqb a b)

@@ -11,7 +11,8 @@ use lib.Dec.{eqb}
 use lib.ListN.{getD}
 use Rattle.rules.specs.Below.{allBelow, sumBelow}
 use Rattle.channel.specs.Channels.{channelIndex, allEmpty}
-use Rattle.run.proofs.BelowLaws.{all-at, all-of, all-next, all-add, sum-same, sum-next, sum-add}
+use Rattle.rules.proofs.Sums.{sum-same}
+use Rattle.run.proofs.BelowLaws.{all-at, all-of, all-next, all-add, sum-next, sum-add}
 
 next-zone : (from : ℕ) → from * 8 + 8 ≡ (from + 1) * 8
 next-zone from = omega arith
@@ -44,7 +45,7 @@ module _ (f : ℕ → ℕ) (from n : ℕ) where
   sum-zone m g h = rw (← next-zone from, sum-add (from * 8) 8 f, g, h)
 
   pub sum-none : n ≡ sumBelow (from * 8) f → ((j : ℕ) → j < 8 → f (channelIndex from j) ≡ 0) → n ≡ sumBelow ((from + 1) * 8) f
-  sum-none g h = sym (add-zero n) ∙ sum-zone 0 g (sym (sum-same 8 (λ j. 0) (λ j. f (channelIndex from j)) h))
+  sum-none g h = sym (add-zero n) ∙ sum-zone 0 g (sym (sum-same 8 (λ j. f (channelIndex from j)) (λ j. 0) h))
 
 -- Where no channel from a zone holds an item, each has the length 0.
 pub none-from : (lens : List ℕ) (from : ℕ) → allEmpty lens from ≡ true → (j : ℕ) → j < 8 → getD lens (channelIndex from j) 0 ≡ 0

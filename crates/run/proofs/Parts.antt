@@ -17,7 +17,8 @@ use Rattle.rules.specs.Below.{sumBelow}
 use Rattle.run.specs.State.{zoneAt, localSound, localsSound, setsWithin, channelSound, channelsSound, carsOf, stocks, carsOnChannels, partsSound, isSound, countOf, termsOf}
 use Rattle.run.specs.Model.{siteOf}
 use Rattle.run.specs.declared.Run.{Run}
-use Rattle.run.proofs.BelowLaws.{all-of, sum-same}
+use Rattle.rules.proofs.Sums.{sum-same}
+use Rattle.run.proofs.BelowLaws.{all-of}
 use Rattle.run.proofs.Facts.{channel-is, channel-at, channel-index-lt, sound-low, sound-high, sound-records, sound-events, sound-deps, sound-length, sound-sets, sound-total}
 
 -- Is there a channel from i to j on the site?
