@@ -68,7 +68,7 @@ sent-answered z to cars e = subst (Answered z false) (sym (send-step z to cars e
 
 received-answered : (z : Zone) (from cars : ℕ) (flag : Bool) → eqb (receiveStep z from cars flag .refusal) 0 ≡ true
     → Answered z false (receiveStep z from cars flag)
-received-answered z from cars flag e = subst (Answered z false) (sym (receive-step z from cars flag e))
+received-answered z from cars flag e = subst (Answered z false) (sym (receive-step z from cars flag e .0))
     (record { to-within = pow-pos (z .count); shown-kept = λ _. kept (z .checkpoint) _ flag; none-sent = λ _. refl })
   where
     kept : (k : Checkpoint) (now : Saved) (flag : Bool) → shown (checkpointAfter k now flag) ≡ shown k

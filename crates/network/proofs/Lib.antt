@@ -4,4 +4,5 @@ pub mod Effects
 pub mod Balance
 pub mod Quiet
 pub mod Polls
+pub mod Cars
 pub mod Examples

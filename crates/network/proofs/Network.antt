@@ -48,20 +48,24 @@ passed qs z x n e = ask-accepted (λ (s : Step). s .refusal) qs (refused z) x (�
 
 -- What an accepted step answers, and what its questions said.
 pub send-step : (z : Zone) (to cars : ℕ) → eqb (sendStep z to cars .refusal) 0 ≡ true
-    → (sendStep z to cars ≡ accepted (withLocal z (sent cars (localOf z))) (hasCheckpoint (z .checkpoint)) nobody nobody) × (cars ≤ z .stock)
+    → (sendStep z to cars ≡ accepted (withLocal z (sent cars (localOf z))) (hasCheckpoint (z .checkpoint)) nobody nobody) × (isOther z to ≡ true)
+    × (cars ≤ z .stock)
 unfolding sendStep
 send-step z to cars e =
     let r = passed
     (question 1 (isZoneSound z) ∷ question 5 (isOther z to) ∷ question 6 (hasRoom z) ∷ question 7 (leb cars (z .stock)) ∷ [])
     z (accepted (withLocal z (sent cars (localOf z))) (hasCheckpoint (z .checkpoint)) nobody nobody) refl e in
-    (r .1, leb-true cars (z .stock) (r .0 .1 .1 .1 .0))
+    (r .1, r .0 .1 .0, leb-true cars (z .stock) (r .0 .1 .1 .1 .0))
 
 pub receive-step : (z : Zone) (from cars : ℕ) (flag : Bool) → eqb (receiveStep z from cars flag .refusal) 0 ≡ true
-    → receiveStep z from cars flag ≡ accepted (withLocal z (received (index from) cars flag (localOf z))) false nobody nobody
+    → (receiveStep z from cars flag ≡ accepted (withLocal z (received (index from) cars flag (localOf z))) false nobody nobody)
+    × (isOther z from ≡ true)
 unfolding receiveStep
-receive-step z from cars flag e = passed
+receive-step z from cars flag e =
+    let r = passed
     (question 1 (isZoneSound z) ∷ question 5 (isOther z from) ∷ question 6 (hasRoom z) ∷ question 20 (leb (z .stock + cars) mostCars) ∷ [])
-    z (accepted (withLocal z (received (index from) cars flag (localOf z))) false nobody nobody) refl e .1
+    z (accepted (withLocal z (received (index from) cars flag (localOf z))) false nobody nobody) refl e in
+    (r .1, r .0 .1 .0)
 
 pub request-step : (z : Zone) (set : ℕ) → eqb (requestStep z set .refusal) 0 ≡ true
     → (requestStep z set ≡ requestingStep z (requestedBy (index (z .number)) set (localOf z))) × (isZoneSound z ≡ true)
@@ -118,7 +122,7 @@ sent-site net a b cars e =
 received-site : (net : Network) (a b cars : ℕ) (flag : Bool) → eqb (receiveStep (net .zone b) (a + 1) cars flag .refusal) 0 ≡ true
     → networkSite (stored (receive a b) (receiveStep (net .zone b) (a + 1) cars flag) net) ≡ receiveS a b cars flag (networkSite net)
 received-site net a b cars flag e =
-    ap (λ (x : Step). networkSite (stored (receive a b) x net)) (receive-step (net .zone b) (a + 1) cars flag e)
+    ap (λ (x : Step). networkSite (stored (receive a b) x net)) (receive-step (net .zone b) (a + 1) cars flag e .0)
     ∙ site≡ _ _
     (changed net b _ (received a cars flag)
     (ap (λ (k : ℕ). received k cars flag (localOf (net .zone b))) (index-of a (a + 1) refl)))
@@ -202,7 +206,7 @@ Shows (receive a b) net = net .channel a b ≡ [] → ⊥
 Shows (start a) net = Unit {0}
 
 pub shows : (c : Call) (net : Network) → isAccepted (answer c net) ≡ true → Shows c net
-shows (send a b cars) net e = send-step (net .zone a) (b + 1) cars e .1
+shows (send a b cars) net e = send-step (net .zone a) (b + 1) cars e .2
 shows (receive a b) net e = λ q. false≢true (ap (λ (l : List Item). isAccepted (takeStep (a + 1) l (net .zone b))) (sym q) ∙ e)
 shows (start a) net e = tt
 
@@ -236,7 +240,7 @@ module _ (f : Zone → ℕ) (fixed : (z : Zone) (l : Local) → f (withLocal z l
       go (message cars flag ∷ l) =
           let x = receiveStep (net .zone b) (a + 1) cars flag in
           kept-if (receive a b) x
-          (λ e. zone-kept b x _ (ap (λ (x : Step). x .zone) (receive-step (net .zone b) (a + 1) cars flag e)))
+          (λ e. zone-kept b x _ (ap (λ (x : Step). x .zone) (receive-step (net .zone b) (a + 1) cars flag e .0)))
       go (request set ∷ l) =
           let x = requestStep (net .zone b) set in
           kept-if (receive a b) x (λ e. zone-kept b x _ (ap (λ (x : Step). x .zone) (request-step (net .zone b) set e .0)))
