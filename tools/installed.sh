@@ -62,10 +62,14 @@ echo '#include <cut/site.h>' >headers.c
 others=$($c -E -dM headers.c | sort | comm -13 before - | sed '/^#define CUT_/d')
 [ -z "$others" ] || fail "The headers define $others"
 
+# The loop of docs/INTEGRATION.md, as tests/loop.c includes it.
+sed -n "/^### A controller's loop/,/^### What/s/^    //p" "$root/docs/INTEGRATION.md" >loop.inc
+grep -q cut_zone_request loop.inc || fail "docs/INTEGRATION.md has no controller's loop."
+
 # The examples against the shared library and against the archive.
-for from in example.c desk.c both.cpp stack.c; do
+for from in example.c desk.c both.cpp loop.c stack.c; do
     case $from in
-    stack.c) source=$root/tests/$from compile=$c ;;
+    loop.c | stack.c) source=$root/tests/$from compile="$c -I." ;;
     *.cpp) source=$root/c/$from compile=$cpp ;;
     *) source=$root/c/$from compile=$c ;;
     esac

@@ -1,0 +1,79 @@
+/* The controller's loop of docs/INTEGRATION.md, run as it stands there: tools/installed.sh takes it out of the document into loop.inc. Zone 1
+ * of 3 hands over, takes, turns firm by a request, sends its own and drops the next. Exits 1 if a value is not as it must be. */
+#include <stdint.h>
+#include <stdio.h>
+#include <stdlib.h>
+
+static void put(uint8_t to, uint16_t word);
+static void log_entry(uint8_t from, uint8_t to, uint8_t cars, uint16_t events);
+
+#include "loop.inc"
+
+/* What was put and logged last, and how often. */
+static struct {
+    unsigned times;
+    uint8_t to;
+    uint16_t word;
+} line;
+static struct {
+    unsigned times;
+    uint8_t from, to, cars;
+    uint16_t events;
+} entry;
+
+static void put(uint8_t to, uint16_t word)
+{
+    line.times++;
+    line.to = to;
+    line.word = word;
+}
+
+static void log_entry(uint8_t from, uint8_t to, uint8_t cars, uint16_t events)
+{
+    entry.times++;
+    entry.from = from;
+    entry.to = to;
+    entry.cars = cars;
+    entry.events = events;
+}
+
+static void must(int holds, const char *what)
+{
+    if (!holds) {
+        fprintf(stderr, "not as it must be: %s\n", what);
+        exit(1);
+    }
+}
+
+static void must_put(unsigned times, uint8_t to, uint16_t word, const char *what)
+{
+    must(line.times == times && line.to == to && line.word == word, what);
+}
+
+static void must_log(unsigned times, uint8_t from, uint8_t to, uint8_t cars, uint16_t events, const char *what)
+{
+    must(entry.times == times && entry.from == from && entry.to == to && entry.cars == cars && entry.events == events, what);
+}
+
+int main(void)
+{
+    zone = cut_zone_open(3, 1, 10).zone;
+    must(hand_over(2, 11) == CUT_REFUSED_STOCK_TOO_LOW && line.times == 0 && entry.times == 0, "11 of 10 cars are refused");
+    must(hand_over(2, 4) == CUT_ACCEPTED, "4 cars are handed to 2");
+    must_put(1, 2, 4, "they are on the line");
+    must_log(1, 1, 2, 4, 1, "and in the log, as own event 1");
+    must(take(3, 5) == CUT_ACCEPTED && zone.stock == 11, "5 cars are taken from 3");
+    must_log(2, 3, 1, 5, 2, "they are in the log, as own event 2");
+    must(line.times == 1 && sent == 0 && taken == 0, "no request was sent or taken");
+
+    must(take(2, 512 + 2) == CUT_ACCEPTED && zone.mark == CUT_MARK_PERMANENT, "a request makes the zone firm");
+    must_put(2, 3, 512 + 7, "a request goes to 3, with all three zones");
+    must(sent == 1 && taken == 1 && entry.times == 2, "both are counted, and no own event is logged");
+    must(take(2, 512 + 2) == CUT_ACCEPTED && line.times == 2 && sent == 1 && taken == 2, "a second one is dropped, and counted as taken");
+    must(hand_over(2, 1) == CUT_ACCEPTED, "1 car is handed to 2");
+    must_put(3, 2, 256 + 1, "with the marked bit");
+    must(take(2, 256 + 3) == CUT_ACCEPTED && zone.stock == 13 && zone.saved.stock == 11, "a marked hand-over leaves the firm mark");
+    must(start() == CUT_REFUSED_STARTED && sent == 1, "a start is refused");
+    must(take(2, 768) == CUT_REFUSED_ZONE && take(2, 512 + 8) == CUT_REFUSED_ZONE && taken == 2, "no item of this site");
+    return 0;
+}
