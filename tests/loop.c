@@ -5,7 +5,7 @@
 #include <stdlib.h>
 
 static void put(uint8_t to, uint16_t word);
-static void log_entry(uint8_t from, uint8_t to, uint8_t cars, uint16_t events);
+static void log_entry(int kind, uint8_t from, uint8_t to, uint8_t cars, uint16_t events);
 
 #include "loop.inc"
 
@@ -17,6 +17,7 @@ static struct {
 } line;
 static struct {
     unsigned times;
+    int kind;
     uint8_t from, to, cars;
     uint16_t events;
 } entry;
@@ -28,9 +29,10 @@ static void put(uint8_t to, uint16_t word)
     line.word = word;
 }
 
-static void log_entry(uint8_t from, uint8_t to, uint8_t cars, uint16_t events)
+static void log_entry(int kind, uint8_t from, uint8_t to, uint8_t cars, uint16_t events)
 {
     entry.times++;
+    entry.kind = kind;
     entry.from = from;
     entry.to = to;
     entry.cars = cars;
@@ -50,9 +52,10 @@ static void must_put(unsigned times, uint8_t to, uint16_t word, const char *what
     must(line.times == times && line.to == to && line.word == word, what);
 }
 
-static void must_log(unsigned times, uint8_t from, uint8_t to, uint8_t cars, uint16_t events, const char *what)
+static void must_log(unsigned times, int kind, uint8_t from, uint8_t to, uint8_t cars, uint16_t events, const char *what)
 {
-    must(entry.times == times && entry.from == from && entry.to == to && entry.cars == cars && entry.events == events, what);
+    must(entry.times == times && entry.kind == kind && entry.from == from && entry.to == to, what);
+    must(entry.cars == cars && entry.events == events, what);
 }
 
 int main(void)
@@ -61,19 +64,26 @@ int main(void)
     must(hand_over(2, 11) == CUT_REFUSED_STOCK_TOO_LOW && line.times == 0 && entry.times == 0, "11 of 10 cars are refused");
     must(hand_over(2, 4) == CUT_ACCEPTED, "4 cars are handed to 2");
     must_put(1, 2, 4, "they are on the line");
-    must_log(1, 1, 2, 4, 1, "and in the log, as own event 1");
+    must_log(1, HANDED, 1, 2, 4, 1, "and in the log, as own event 1");
     must(take(3, 5) == CUT_ACCEPTED && zone.stock == 11, "5 cars are taken from 3");
-    must_log(2, 3, 1, 5, 2, "they are in the log, as own event 2");
+    must_log(2, TOOK, 3, 1, 5, 2, "they are in the log, as own event 2");
     must(line.times == 1 && sent == 0 && taken == 0, "no request was sent or taken");
 
     must(take(2, 512 + 2) == CUT_ACCEPTED && zone.mark == CUT_MARK_PERMANENT, "a request makes the zone firm");
     must_put(2, 3, 512 + 7, "a request goes to 3, with all three zones");
-    must(sent == 1 && taken == 1 && entry.times == 2, "both are counted, and no own event is logged");
+    must(sent == 1 && taken == 1, "both are counted");
+    must_log(3, TOOK, 2, 1, 0, 0, "and its receipt is in the log, as no own event");
     must(take(2, 512 + 2) == CUT_ACCEPTED && line.times == 2 && sent == 1 && taken == 2, "a second one is dropped, and counted as taken");
     must(hand_over(2, 1) == CUT_ACCEPTED, "1 car is handed to 2");
     must_put(3, 2, 256 + 1, "with the marked bit");
     must(take(2, 256 + 3) == CUT_ACCEPTED && zone.stock == 13 && zone.saved.stock == 11, "a marked hand-over leaves the firm mark");
     must(start() == CUT_REFUSED_STARTED && sent == 1, "a start is refused");
+    must(entry.times == 6, "and is in no log");
     must(take(2, 768) == CUT_REFUSED_ZONE && take(2, 512 + 8) == CUT_REFUSED_ZONE && taken == 2, "no item of this site");
+
+    zone = cut_zone_open(3, 2, 10).zone;
+    must(take(1, 4) == CUT_ACCEPTED && start() == CUT_ACCEPTED && sent == 2, "zone 2, which heard from 1, starts and sends a request");
+    must_put(4, 1, 512 + 3, "to 1, with its heard set");
+    must_log(8, STARTED, 2, 2, 0, 0, "and its start is in the log");
     return 0;
 }

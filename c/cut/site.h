@@ -18,8 +18,8 @@
  * call on any other run is refused with 1.
  *
  * The calls keep no state of their own, allocate nothing, never block and always return, so that threads may call at once on different runs;
- * cut_record and cut_write only read theirs, and may share it. The library is for x86-64 with System V calls; of the C library it uses
- * memcpy and memset.
+ * cut_record and cut_write only read theirs, and may share it. The header is C11 or C++11, the library for x86-64 with System V calls; of
+ * the C library it uses memcpy and memset.
  *
  * Whoever has a journal and wants its recording needs cut_journal_record alone.
  *

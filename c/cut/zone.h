@@ -16,7 +16,7 @@
  * most 2. A step on any other zone is refused with 1.
  *
  * The calls keep no state of their own, allocate nothing, never block and always return, so that threads may call at once on different
- * zones. The library is for x86-64 with System V calls; its zone part uses nothing of the C library. */
+ * zones. The header is C11 or C++11, the library for x86-64 with System V calls; its zone part uses nothing of the C library. */
 #ifndef CUT_ZONE_H
 #define CUT_ZONE_H
 
@@ -79,8 +79,8 @@ cut_opening cut_zone_open(uint8_t count, uint8_t number, uint16_t stock);
 cut_step cut_zone_send(cut_zone zone, uint8_t to, uint8_t cars);
 
 /* Receives a message (takes a "hand-over") from zone `from`; any flag ("marked bit") but 0 counts as 1. Refused with: 1; 5 `from` is not on
- * the site or is the zone itself; 6; 20 the stock would exceed 65,535. Then keep the item first on its channel ("line").
- * Stack: CUT_ZONE_STACK. */
+ * the site or is the zone itself; 6; 20 the stock would exceed 65,535. With 6 and 20 the item stays first on its channel ("line"); with 5 it
+ * is no item of this site, and is taken off. Stack: CUT_ZONE_STACK. */
 cut_step cut_zone_receive(cut_zone zone, uint8_t from, uint8_t cars, uint8_t flag);
 
 /* Receives (takes) a "request" with its set: send a request carrying `carried` to each zone of `to`. Refused with: 1; 5 the set names a zone
