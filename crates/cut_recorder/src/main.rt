@@ -3,6 +3,7 @@
 ghost use mathlib.Core.Path.{_≡_};
 ghost use Prim.Native.Nat.{ℕ, _+_, _≤_};
 ghost use lib.ListN.{length, take};
+ghost use Rattle.cut_recorder.specs.Input.{inputOf};
 ghost use Rattle.cut_recorder.specs.declared.Input.the-variants.{Bytes};
 use libc::STDERR_FILENO;
 use libc::STDIN_FILENO;
@@ -16,6 +17,17 @@ enum Input {
     Failed,
 }
 
+// What a read into the lent space answered.
+fn input_of(got: isize, lent: &[u8]) -> Input
+    ensures { λ r. ⌜ r ≡ inputOf got (length (now (lent .entry))) ⌝ }
+{
+    if got < 0 {
+        return Input::Failed;
+    }
+    let n = io::count(got, lent);
+    Input::Bytes(n)
+}
+
 // One read behind the first `at` bytes, which stay as they are; at the end of the input it gives 0. A read that a signal interrupts counts
 // as failed too, since libc does not give C's errno, which tells the two apart.
 fn read_behind(space: &mut [u8], at: usize) -> Input
@@ -24,11 +36,7 @@ fn read_behind(space: &mut [u8], at: usize) -> Input
     ensures { λ r. ⌜ take at (now (space .exit)) ≡ take at (now (space .entry)) ⌝ }
 {
     let got = libc::read(STDIN_FILENO, &mut space[at..]);
-    if got < 0 {
-        return Input::Failed;
-    }
-    let n = io::count(got, &space[at..]);
-    Input::Bytes(n)
+    input_of(got, &space[at..])
 }
 
 // Reads until the input ends or the space is full.
