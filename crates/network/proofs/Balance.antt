@@ -4,11 +4,11 @@ use mathlib.Core.Path.{_≡_, refl, sym, _∙_, ap, subst}
 use mathlib.Core.Bool.{Bool, true, false, _&&_, cond, and-assoc, and-false, true≢false}
 use mathlib.Core.Logic.{_⊎_, inl, inr}
 use mathlib.Core.List.{List, [], _∷_}
-use mathlib.Core.Option.{Option, none, some}
+use mathlib.Core.Option.{none}
 use Prim.Native.Nat.{ℕ, _+_, _^_, _≤_, _<_}
 use native.Mathlib.Omega.{arith}
-use lib.Dec.{eqb, ltb}
-use borrow.Author.Tests.{eqb-true, ne-eqb, ltb-true, ltb-false}
+use lib.Dec.{eqb}
+use borrow.Author.Tests.{eqb-true, ne-eqb}
 use Rattle.rules.specs.Below.{sumBelow}
 use Rattle.rules.specs.Opening.{Opening}
 use Rattle.rules.specs.Sets.{has, nobody, size}
@@ -20,13 +20,12 @@ use Rattle.rules.proofs.Members.{has-off, size-sum, size-nobody}
 use Rattle.rules.proofs.Requests.{flow-kept, flow-open, flow-unsent}
 use Rattle.rules.proofs.SetLaws.{has-nobody}
 use Rattle.rules.proofs.Sums.{sum-same, sum-zero, sum-both, sum-one, sums, sums-same, sums-zero, sums-none, sums-both}
-use Rattle.rules.proofs.Tests.{eqb-refl, not-both}
-use Rattle.zone.specs.declared.Step.{Step}
+use Rattle.rules.proofs.Tests.{eqb-refl, below?, not-both}
 use Rattle.network.specs.Network.{Network, openNetwork, answer, isAccepted, made, after, acceptedCalls, startsIn}
-use Rattle.network.specs.Polls.{stepOf, targetsIn, sentIn, beginsWithRequest, takenIn, takesRequest, sentBy, takenBy}
+use Rattle.network.specs.Polls.{stepOf, targetsOf, sentIn, beginsWithRequest, takenIn, takesRequest, sentBy, takenBy}
 use Rattle.network.proofs.Network.{Numbered, network-follows}
 use Rattle.network.proofs.OffSite.{Counted, refused-off, numbers-kept}
-use Rattle.network.proofs.Effects.{requestsOn, leaving, joining, targetsOf, sendsTo, takes, effect}
+use Rattle.network.proofs.Effects.{requestsOn, leaving, joining, sendsTo, tookRequest, effect}
 
 -- The number of requests on all channels of the n zones.
 abbrev pub requestsWaiting : ℕ → Network → ℕ
@@ -34,20 +33,14 @@ requestsWaiting n net = sums n (λ i j. requestsOn (net .channel i j))
 
 -- What a call adds to the counters, by what it does.
 pub sent-in : (c : Call) (net : Network) (k : ℕ) → sentIn c net k ≡ cond (eqb k (stepOf c)) (size (sendsTo c net)) 0
-sent-in c net k = go (eqb k (stepOf c)) (answer c net)
+sent-in c net k = go (eqb k (stepOf c)) (isAccepted (answer c net)) (targetsOf (answer c net))
   where
-    by : (p q : Bool) (set : ℕ) → cond (p && q) (size set) 0 ≡ cond p (size (cond q set nobody)) 0
-    by false q set = refl
-    by true true set = refl
-    by true false set = sym size-nobody
+    go : (p q : Bool) (set : ℕ) → cond (p && q) (size set) 0 ≡ cond p (size (cond q set nobody)) 0
+    go false q set = refl
+    go true true set = refl
+    go true false set = sym size-nobody
 
-    go : (p : Bool) (o : Option Step)
-        → cond (p && isAccepted o) (targetsIn o) 0 ≡ cond p (size (cond (isAccepted o) (targetsOf o) nobody)) 0
-    go true none = sym size-nobody
-    go false none = refl
-    go p (some x) = by p (eqb (x .refusal) 0) (x .to)
-
-taken-in : (c : Call) (net : Network) (k : ℕ) → takenIn c net k ≡ cond (eqb k (stepOf c) && takes c net) 1 0
+taken-in : (c : Call) (net : Network) (k : ℕ) → takenIn c net k ≡ cond (eqb k (stepOf c) && tookRequest c net) 1 0
 taken-in c net k = ap (λ (t : Bool). cond {A = ℕ} t 1 0) (and-assoc (eqb k (stepOf c)) (isAccepted (answer c net)) (takesRequest c net))
 
 -- ---- one call
@@ -98,28 +91,28 @@ module _ (n : ℕ) (net : Network) (site : OnSite n net) (c : Call) where
 
 -- Those that leave channels are those that were taken: a request that stood first came from a zone of the site.
 taken-none : (n : ℕ) (net : Network) (c : Call) → takesRequest c net ≡ false
-    → sums n (leaving c (takes c net)) ≡ sumBelow n (λ k. takenIn c net k)
+    → sums n (leaving c (tookRequest c net)) ≡ sumBelow n (λ k. takenIn c net k)
 taken-none n net c e =
     sums-zero n _ (λ i j. rw (e, and-false (isAccepted (answer c net)), and-false _))
     ∙ sym (sum-zero n _ (λ k. rw (e, and-false (eqb k (stepOf c) && isAccepted (answer c net)))))
 
-taken-sums : (n : ℕ) (net : Network) → OnSite n net → (c : Call) → sums n (leaving c (takes c net)) ≡ sumBelow n (λ k. takenIn c net k)
+taken-sums : (n : ℕ) (net : Network) → OnSite n net → (c : Call) → sums n (leaving c (tookRequest c net)) ≡ sumBelow n (λ k. takenIn c net k)
 taken-sums n net site (send a b cars) = taken-none n net (send a b cars) refl
 taken-sums n net site (start a) = taken-none n net (start a) refl
-taken-sums n net site (receive a b) = go (ltb a n) refl
+taken-sums n net site (receive a b) = go (below? a n)
   where
-    go : (p : Bool) → ltb a n ≡ p
-        → sums n (leaving (receive a b) (takes (receive a b) net)) ≡ sumBelow n (λ k. takenIn (receive a b) net k)
-    go true h =
-        sum-one n _ a (ltb-true a n h) (λ i ne. sum-zero n _ (λ j. rw (ne-eqb i a ne)))
+    go : (a < n) ⊎ (n ≤ a)
+        → sums n (leaving (receive a b) (tookRequest (receive a b) net)) ≡ sumBelow n (λ k. takenIn (receive a b) net k)
+    go (inl h) =
+        sum-one n _ a h (λ i ne. sum-zero n _ (λ j. rw (ne-eqb i a ne)))
         ∙ sum-same n _ _ (λ j _. rw (eqb-refl a) (sym (taken-in (receive a b) net j)))
-    go false h = taken-none n net (receive a b) (none-begins (net .channel a b) (site .none-off a b (inl (ltb-false a n h))))
+    go (inr h) = taken-none n net (receive a b) (none-begins (net .channel a b) (site .none-off a b (inl h)))
 
 pub call-balance : (n : ℕ) (net : Network) → OnSite n net → (c : Call)
     → requestsWaiting n net + sumBelow n (λ k. sentIn c net k) ≡ sumBelow n (λ k. takenIn c net k) + requestsWaiting n (made c net)
 call-balance n net site c =
     let e = sums-same n _ _ (effect c net .requests) in
-    let p = sums-both n (λ i j. requestsOn (made c net .channel i j)) (leaving c (takes c net)) in
+    let p = sums-both n (λ i j. requestsOn (made c net .channel i j)) (leaving c (tookRequest c net)) in
     let q = sums-both n (λ i j. requestsOn (net .channel i j)) (joining c (sendsTo c net)) in
     omega (arith, sent-sums n net site c, taken-sums n net site c)
 
@@ -156,12 +149,12 @@ module _ (n : ℕ) where
 
   -- Where none waits on the channels of the n zones, none waits on any.
   pub none-anywhere : (net : Network) → OnSite n net → requestsWaiting n net ≡ 0 → (i j : ℕ) → requestsOn (net .channel i j) ≡ 0
-  none-anywhere net site e i j = go (ltb i n) refl (ltb j n) refl
+  none-anywhere net site e i j = go (below? i n) (below? j n)
     where
-      go : (p : Bool) → ltb i n ≡ p → (q : Bool) → ltb j n ≡ q → requestsOn (net .channel i j) ≡ 0
-      go true h true g = sums-none n (λ i j. requestsOn (net .channel i j)) e i j (ltb-true i n h) (ltb-true j n g)
-      go true h false g = site .none-off i j (inr (ltb-false j n g))
-      go false h q g = site .none-off i j (inl (ltb-false i n h))
+      go : (i < n) ⊎ (n ≤ i) → (j < n) ⊎ (n ≤ j) → requestsOn (net .channel i j) ≡ 0
+      go (inl h) (inl g) = sums-none n (λ i j. requestsOn (net .channel i j)) e i j h g
+      go (inl h) (inr g) = site .none-off i j (inr g)
+      go (inr h) q = site .none-off i j (inl h)
 
 -- With at most one accepted start, a zone whose checkpoint is not permanent has no request on any of its channels. So where a maker's
 -- channels have a capacity, a zone that still has to send requests waits only for messages to be received.

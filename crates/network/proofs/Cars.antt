@@ -7,8 +7,8 @@ use mathlib.Core.List.{List, [], _∷_}
 use mathlib.Core.Option.{Option, none, some}
 use Prim.Native.Nat.{ℕ, _+_, _≤_, _<_}
 use native.Mathlib.Omega.{arith}
-use lib.Dec.{eqb, leb, ltb}
-use borrow.Author.Tests.{le-leb, ltb-true, ltb-false}
+use lib.Dec.{eqb, leb}
+use borrow.Author.Tests.{le-leb}
 use Rattle.rules.specs.Below.{sumBelow, sum}
 use Rattle.rules.specs.Change.{cons-if}
 use Rattle.rules.specs.Cut.{Complete, carsOn, present, snapshot}
@@ -16,21 +16,19 @@ use Rattle.rules.specs.Limits.{mostCars}
 use Rattle.rules.specs.Opening.{Opening}
 use Rattle.rules.specs.Park.{total}
 use Rattle.rules.specs.Questions.{Question, question, ask, Among, isCount, isOn}
-use Rattle.rules.specs.Sets.{within}
 use Rattle.rules.specs.Site.{Item, message, request, Site, Call, send, receive, start}
-use Rattle.rules.specs.Zone.{hasCheckpoint}
 use Rattle.rules.proofs.AskLaws.{AllYes, numbers, lacks, not-among, ask-cases}
 use Rattle.rules.proofs.Conservation.{Between, present-total, recorded-total}
 use Rattle.rules.proofs.Lists.{All}
 use Rattle.rules.proofs.QuestionLaws.{on-high}
 use Rattle.rules.proofs.Sums.{sum-at}
-use Rattle.rules.proofs.Tests.{and-left, and-right, eqb-refl}
+use Rattle.rules.proofs.Tests.{and-left, and-right, eqb-refl, below?}
 use Rattle.zone.specs.Zone.{isZoneSound, isOther, hasRoom, refused, sendStep, receiveStep, requestStep, startStep}
 use Rattle.zone.specs.declared.Step.{Step}
 use Rattle.zone.specs.declared.Zone.{Zone}
 use Rattle.network.specs.Network.{Network, openNetwork, takeStep, answer, isAccepted, made, after, acceptedCalls, startsIn, networkSite}
 use Rattle.network.specs.Polls.{stepOf}
-use Rattle.network.proofs.Network.{send-step, receive-step, network-follows}
+use Rattle.network.proofs.Network.{sendAsks, requestAsks, startAsks, send-step, receive-step, network-follows}
 use Rattle.network.proofs.Effects.{requestsOn}
 use Rattle.network.proofs.Balance.{OnSite, refused-at, site-made, site-after, site-open}
 
@@ -49,11 +47,11 @@ sound-on z e = on-high (z .count) (z .number) (and-right (isCount (z .count)) _ 
 module _ (n : ℕ) (net : Network) (site : OnSite n net) where
   -- The zone whose step it is.
   own-on : (c : Call) → isAccepted (answer c net) ≡ true → stepOf c < n
-  own-on c e = go (ltb (stepOf c) n) refl
+  own-on c e = go (below? (stepOf c) n)
     where
-      go : (p : Bool) → ltb (stepOf c) n ≡ p → stepOf c < n
-      go true h = ltb-true (stepOf c) n h
-      go false h = absurd (true≢false (sym e ∙ refused-at n net site c (stepOf c) (eqb-refl (stepOf c)) (ltb-false (stepOf c) n h)))
+      go : (stepOf c < n) ⊎ (n ≤ stepOf c) → stepOf c < n
+      go (inl h) = h
+      go (inr h) = absurd (true≢false (sym e ∙ refused-at n net site c (stepOf c) (eqb-refl (stepOf c)) h))
 
   -- The zone that it names.
   named-on : (a b : ℕ) → isOther (net .zone a) (b + 1) ≡ true → b < n
@@ -63,12 +61,12 @@ module _ (n : ℕ) (net : Network) (site : OnSite n net) where
   sender-on : (a b : ℕ) (l : List Item) → net .channel a b ≡ l → isAccepted (takeStep (a + 1) l (net .zone b)) ≡ true → a < n
   sender-on a b [] at e = absurd (false≢true e)
   sender-on a b (message cars flag ∷ l) at e = named-on b a (receive-step (net .zone b) (a + 1) cars flag e .1)
-  sender-on a b (request set ∷ l) at e = go (ltb a n) refl
+  sender-on a b (request set ∷ l) at e = go (below? a n)
     where
-      go : (p : Bool) → ltb a n ≡ p → a < n
-      go true h = ltb-true a n h
-      go false h =
-          let z = site .none-off a b (inl (ltb-false a n h)) in
+      go : (a < n) ⊎ (n ≤ a) → a < n
+      go (inl h) = h
+      go (inr h) =
+          let z = site .none-off a b (inl h) in
           let w = ap requestsOn at in
           absurd (omega arith)
 
@@ -103,16 +101,15 @@ not-asked qs z x accepted l e = go (ask-cases qs (refused z) x)
 
 sent-not-20 : (z : Zone) (to cars : ℕ) → sendStep z to cars .refusal ≢ 20
 unfolding sendStep
-sent-not-20 z to cars = not-asked
-    (question 1 (isZoneSound z) ∷ question 5 (isOther z to) ∷ question 6 (hasRoom z) ∷ question 7 (leb cars (z .stock)) ∷ []) z _ refl refl
+sent-not-20 z to cars = not-asked (sendAsks z to cars) z _ refl refl
 
 requested-not-20 : (z : Zone) (set : ℕ) → requestStep z set .refusal ≢ 20
 unfolding requestStep
-requested-not-20 z set = not-asked (question 1 (isZoneSound z) ∷ question 5 (within set (z .count)) ∷ []) z _ refl refl
+requested-not-20 z set = not-asked (requestAsks z set) z _ refl refl
 
 started-not-20 : (z : Zone) → startStep z .refusal ≢ 20
 unfolding startStep
-started-not-20 z = not-asked (question 1 (isZoneSound z) ∷ question 11 (not (hasCheckpoint (z .checkpoint))) ∷ []) z _ refl refl
+started-not-20 z = not-asked (startAsks z) z _ refl refl
 
 -- A zone that is sound and has room for the cars of a message from another zone of its site does not refuse it with 20.
 received-not-20 : (z : Zone) (from cars : ℕ) (flag : Bool)

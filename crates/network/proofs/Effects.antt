@@ -28,7 +28,7 @@ use Rattle.zone.specs.Zone.{localOf, isZoneSound, requestingStep, sendStep, rec
 use Rattle.zone.specs.declared.Step.{Step}
 use Rattle.zone.specs.declared.Zone.{Zone}
 use Rattle.network.specs.Network.{Network, takeStep, answer, isAccepted, stored, storedIf, made}
-use Rattle.network.specs.Polls.{stepOf, beginsWithRequest, takesRequest}
+use Rattle.network.specs.Polls.{stepOf, targetsOf, beginsWithRequest, takesRequest}
 use Rattle.network.proofs.Network.{send-step, receive-step, request-step, start-step, no-checkpoint-not-permanent}
 
 -- The number of requests on a channel.
@@ -230,23 +230,18 @@ module _ (net : Network) (x : Step) where
           → eqb k (stepOf c) ≡ true → shown (x .zone .checkpoint) ≡ shown (net .zone k .checkpoint)
       at k h q = subst Kept (sym (eqb-true k (stepOf c) q)) (r .shown-kept) (rw q at h)
 
--- Whom an answer sends requests to.
-abbrev pub targetsOf : Option Step → ℕ
-targetsOf none = nobody
-targetsOf (some x) = x .to
-
 -- Whom the call sends requests to, whether it took a request, and whether its zone may have turned by it; nobody and no, if it was
 -- refused.
 abbrev pub sendsTo : Call → Network → ℕ
 sendsTo c net = cond (isAccepted (answer c net)) (targetsOf (answer c net)) nobody
 
-abbrev pub takes : Call → Network → Bool
-takes c net = isAccepted (answer c net) && takesRequest c net
+abbrev pub tookRequest : Call → Network → Bool
+tookRequest c net = isAccepted (answer c net) && takesRequest c net
 
 abbrev pub turns : Call → Network → Bool
 turns c net = isAccepted (answer c net) && turning c net
 
-pub effect : (c : Call) (net : Network) → Effect c net (made c net) (sendsTo c net) (takes c net) (turns c net)
+pub effect : (c : Call) (net : Network) → Effect c net (made c net) (sendsTo c net) (tookRequest c net) (turns c net)
 effect c net = go (answer c net) (answered c net)
   where
     by : (x : Step) (p : Bool) → (p ≡ true → Answered (net .zone (stepOf c)) (turning c net) x)

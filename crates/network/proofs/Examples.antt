@@ -46,8 +46,8 @@ accepted-ones = refl
 abbrev channelItems : Bool → Bool → Bool → Bool → Bool → List Item
 channelItems p q a b c =
     let sent = on q (join (message 4 false)) (on p (join (message 4 false)) []) in
-    let begun = on b (join (request 3)) (on a (join (request 0)) (on p tail sent)) in
-    on c (join (request 0)) (on q tail (on c (join (request 0)) (on q tail begun)))
+    let started = on b (join (request 3)) (on a (join (request 0)) (on p tail sent)) in
+    on c (join (request 0)) (on q tail (on c (join (request 0)) (on q tail started)))
 
 emptied : (p q : Bool) → channelItems p q false q false ≡ []
 emptied true true = refl
@@ -124,7 +124,7 @@ two-settled = record {
   sent-kept = λ k h. eqb→eq _ _ (below 4 (λ k. eqb (polled firstRound k .sent) (polled secondRound k .sent)) tt k h);
   taken-kept = λ k h. eqb→eq _ _ (below 4 (λ k. eqb (polled firstRound k .taken) (polled secondRound k .taken)) tt k h);
   all-taken = refl;
-  begun = (0, lit< tt, refl);
+  some-permanent = (0, lit< tt, refl);
 }
 
 one-start : startsIn (acceptedCalls moreCalls (openNetwork 4 tens)) ≤ 1

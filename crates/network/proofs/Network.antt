@@ -46,15 +46,29 @@ passed : (qs : List Question) (z : Zone) (x : Step) → lacks 0 (numbers qs) ≡
     → AllYes qs × (ask qs (refused z) x ≡ x)
 passed qs z x n e = ask-accepted (λ (s : Step). s .refusal) qs (refused z) x (λ m. refl) n (eqb-true (ask qs (refused z) x .refusal) 0 e)
 
+-- The questions of each step.
+abbrev pub sendAsks : Zone → ℕ → ℕ → List Question
+sendAsks z to cars =
+    question 1 (isZoneSound z) ∷ question 5 (isOther z to) ∷ question 6 (hasRoom z) ∷ question 7 (leb cars (z .stock)) ∷ []
+
+abbrev pub receiveAsks : Zone → ℕ → ℕ → List Question
+receiveAsks z from cars =
+    question 1 (isZoneSound z) ∷ question 5 (isOther z from) ∷ question 6 (hasRoom z) ∷ question 20 (leb (z .stock + cars) mostCars) ∷ []
+
+abbrev pub requestAsks : Zone → ℕ → List Question
+requestAsks z set = question 1 (isZoneSound z) ∷ question 5 (within set (z .count)) ∷ []
+
+abbrev pub startAsks : Zone → List Question
+startAsks z = question 1 (isZoneSound z) ∷ question 11 (not (hasCheckpoint (z .checkpoint))) ∷ []
+
 -- What an accepted step answers, and what its questions said.
 pub send-step : (z : Zone) (to cars : ℕ) → eqb (sendStep z to cars .refusal) 0 ≡ true
     → (sendStep z to cars ≡ accepted (withLocal z (sent cars (localOf z))) (hasCheckpoint (z .checkpoint)) nobody nobody) × (isOther z to ≡ true)
     × (cars ≤ z .stock)
 unfolding sendStep
 send-step z to cars e =
-    let r = passed
-    (question 1 (isZoneSound z) ∷ question 5 (isOther z to) ∷ question 6 (hasRoom z) ∷ question 7 (leb cars (z .stock)) ∷ [])
-    z (accepted (withLocal z (sent cars (localOf z))) (hasCheckpoint (z .checkpoint)) nobody nobody) refl e in
+    let r = passed (sendAsks z to cars) z
+    (accepted (withLocal z (sent cars (localOf z))) (hasCheckpoint (z .checkpoint)) nobody nobody) refl e in
     (r .1, r .0 .1 .0, leb-true cars (z .stock) (r .0 .1 .1 .1 .0))
 
 pub receive-step : (z : Zone) (from cars : ℕ) (flag : Bool) → eqb (receiveStep z from cars flag .refusal) 0 ≡ true
@@ -62,16 +76,15 @@ pub receive-step : (z : Zone) (from cars : ℕ) (flag : Bool) → eqb (receiveSt
     × (isOther z from ≡ true)
 unfolding receiveStep
 receive-step z from cars flag e =
-    let r = passed
-    (question 1 (isZoneSound z) ∷ question 5 (isOther z from) ∷ question 6 (hasRoom z) ∷ question 20 (leb (z .stock + cars) mostCars) ∷ [])
-    z (accepted (withLocal z (received (index from) cars flag (localOf z))) false nobody nobody) refl e in
+    let r = passed (receiveAsks z from cars) z
+    (accepted (withLocal z (received (index from) cars flag (localOf z))) false nobody nobody) refl e in
     (r .1, r .0 .1 .0)
 
 pub request-step : (z : Zone) (set : ℕ) → eqb (requestStep z set .refusal) 0 ≡ true
     → (requestStep z set ≡ requestingStep z (requestedBy (index (z .number)) set (localOf z))) × (isZoneSound z ≡ true)
 unfolding requestStep
 request-step z set e =
-    let r = passed (question 1 (isZoneSound z) ∷ question 5 (within set (z .count)) ∷ []) z
+    let r = passed (requestAsks z set) z
     (requestingStep z (requestedBy (index (z .number)) set (localOf z))) refl e in
     (r .1, r .0 .0)
 
@@ -80,7 +93,7 @@ pub start-step : (z : Zone) → eqb (startStep z .refusal) 0 ≡ true
     × (hasCheckpoint (z .checkpoint) ≡ false)
 unfolding startStep
 start-step z e =
-    let r = passed (question 1 (isZoneSound z) ∷ question 11 (not (hasCheckpoint (z .checkpoint))) ∷ []) z
+    let r = passed (startAsks z) z
     (requestingStep z (startedBy (index (z .number)) (localOf z))) refl e in
     (r .1, r .0 .0, not-true (hasCheckpoint (z .checkpoint)) (r .0 .1 .0))
 
@@ -252,9 +265,9 @@ pub numbered : (net : Network) → Numbered net → (c : Call) → Numbered (mad
 numbered net num c = call-keeps (λ z. z .number) (λ z l. refl) (λ k. k + 1) net num c
 
 -- The number of starts accepted before.
-abbrev begun : Option ℕ → ℕ
-begun none = 0
-begun (some a) = 1
+abbrev startsBefore : Option ℕ → ℕ
+startsBefore none = 0
+startsBefore (some a) = 1
 
 pub no-checkpoint-not-permanent : (k : Checkpoint) → hasCheckpoint k ≡ false → isPermanent k ≡ false
 no-checkpoint-not-permanent None e = refl
@@ -263,17 +276,17 @@ no-checkpoint-not-permanent (Permanent s) e = e
 
 -- An accepted call is one that the rules allow, where no start is a second one.
 allowed-call : (c : Call) (rest : List Call) (net : Network) (h : History) → Fresh h → networkSite net ≡ h .now
-    → begun (h .initiator) + startsIn (c ∷ rest) ≤ 1 → Shows c net → May c (h .now)
+    → startsBefore (h .initiator) + startsIn (c ∷ rest) ≤ 1 → Shows c net → May c (h .now)
 allowed-call (send a b cars) rest net h f e one w = subst (May (send a b cars)) e w
 allowed-call (receive a b) rest net h f e one w = subst (May (receive a b)) e w
 allowed-call (start a) rest net h f e one w = go (h .initiator) refl one
   where
-    go : (o : Option ℕ) → h .initiator ≡ o → begun o + suc (startsIn rest) ≤ 1 → May (start a) (h .now)
+    go : (o : Option ℕ) → h .initiator ≡ o → startsBefore o + suc (startsIn rest) ≤ 1 → May (start a) (h .now)
     go none q one = λ z. no-checkpoint-not-permanent (h .now .zone z .checkpoint) (f .no-checkpoint q z)
     go (some x) q one = absurd (omega arith)
 
 -- The starts that are left, after an accepted call.
-one-left : (c : Call) (rest : List Call) (o : Option ℕ) → begun o + startsIn (c ∷ rest) ≤ 1 → begun (initiatorAfter c o) + startsIn rest ≤ 1
+one-left : (c : Call) (rest : List Call) (o : Option ℕ) → startsBefore o + startsIn (c ∷ rest) ≤ 1 → startsBefore (initiatorAfter c o) + startsIn rest ≤ 1
 one-left (send a b cars) rest o one = one
 one-left (receive a b) rest o one = one
 one-left (start a) rest none one = omega arith
@@ -284,14 +297,14 @@ abbrev Follows : List Call → Network → Site → Type 0
 Follows cs net s = Allowed (acceptedCalls cs net) s × (networkSite (after cs net) ≡ run (acceptedCalls cs net) s)
 
 follows : (cs : List Call) (net : Network) (h : History) → Numbered net → Fresh h → networkSite net ≡ h .now
-    → begun (h .initiator) + startsIn (acceptedCalls cs net) ≤ 1 → Follows cs net (h .now)
+    → startsBefore (h .initiator) + startsIn (acceptedCalls cs net) ≤ 1 → Follows cs net (h .now)
 follows [] net h num f e one = (tt, e)
 follows (c ∷ cs) net h num f e one = go (λ t. follows cs (made c net) t (numbered net num c)) (isAccepted (answer c net)) refl one
   where
-    go : ((t : History) → Fresh t → networkSite (made c net) ≡ t .now → begun (t .initiator) + startsIn (acceptedCalls cs (made c net)) ≤ 1
+    go : ((t : History) → Fresh t → networkSite (made c net) ≡ t .now → startsBefore (t .initiator) + startsIn (acceptedCalls cs (made c net)) ≤ 1
         → Follows cs (made c net) (t .now))
         → (p : Bool) → isAccepted (answer c net) ≡ p
-        → begun (h .initiator) + startsIn (cons-if p c (acceptedCalls cs (made c net))) ≤ 1
+        → startsBefore (h .initiator) + startsIn (cons-if p c (acceptedCalls cs (made c net))) ≤ 1
         → Allowed (cons-if p c (acceptedCalls cs (made c net))) (h .now)
         × (networkSite (after cs (made c net)) ≡ run (cons-if p c (acceptedCalls cs (made c net))) (h .now))
     go ih true q one =

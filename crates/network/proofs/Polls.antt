@@ -1,26 +1,24 @@
 -- A collector that polls in two rounds: if what it read is settled, the recording is complete, and what it read is what is shown.
 use mathlib.Core.Path.{_≡_, refl, sym, _∙_, ap, subst}
-use mathlib.Core.Bool.{Bool, true, false}
-use mathlib.Core.Logic.{_≢_, inl, inr}
+use mathlib.Core.Bool.{true, false}
+use mathlib.Core.Logic.{_≢_, _⊎_, inl, inr}
 use mathlib.Core.List.{List, [], _∷_, _++_}
 use Prim.Native.Nat.{ℕ, zero, suc, _+_, _≤_, _<_}
 use native.Mathlib.Omega.{arith}
-use lib.Dec.{ltb}
 use lib.ListN.{take, drop, take-append-drop}
-use borrow.Author.Tests.{ltb-true, ltb-false}
 use Rattle.rules.specs.Cut.{Complete, Cut, eventsOf, stockOf, channelOf, shownBy, snapshot, moves}
 use Rattle.rules.specs.Opening.{Opening}
 use Rattle.rules.specs.Park.{inside}
 use Rattle.rules.specs.Site.{Item, message, request, Site, Call, openS, waits}
 use Rattle.rules.specs.Zone.{isPermanent}
 use Rattle.rules.proofs.Sums.{sum-same}
-use Rattle.rules.proofs.Tests.{Same, same?}
+use Rattle.rules.proofs.Tests.{Same, same?, below?}
 use Rattle.network.specs.Network.{Network, openNetwork, made, after, acceptedCalls, startsIn, networkSite}
 use Rattle.network.specs.Polls.{sentIn, takenIn, sentBy, takenBy, Poll, polledAt, OneAfterAnother, Settled, polledSite}
 use Rattle.network.proofs.Network.{network-consistent, network-shows}
 use Rattle.network.proofs.Effects.{requestsOn, shown, by-shown}
 use Rattle.network.proofs.Balance.{site-after, site-open, requests-balance, none-anywhere}
-use Rattle.network.proofs.Quiet.{shownAt, permanentAt, shown-permanent, starts, startIn, starts-more, shown-between, Quiet, quiet-after, shown-quiet, started-before, shown-off, begun-stays}
+use Rattle.network.proofs.Quiet.{shownAt, permanentAt, shown-permanent, starts, startIn, starts-more, shown-between, Quiet, quiet-after, shown-quiet, started-before, shown-off, silent-stays}
 
 -- ---- calls in parts
 
@@ -38,8 +36,8 @@ after-append [] ys net = refl
 after-append (x ∷ xs) ys net = after-append xs ys (made x net)
 
 -- A number that is counted call by call: the counters of a zone, and the accepted starts.
-module _ (by : List Call → Network → ℕ) (one : Call → Network → ℕ) (none : (net : Network) → by [] net ≡ 0)
-    (more : (c : Call) (cs : List Call) (net : Network) → by (c ∷ cs) net ≡ one c net + by cs (made c net)) where
+module _ (by : List Call → Network → ℕ) (each : Call → Network → ℕ) (none : (net : Network) → by [] net ≡ 0)
+    (more : (c : Call) (cs : List Call) (net : Network) → by (c ∷ cs) net ≡ each c net + by cs (made c net)) where
   by-append : (xs ys : List Call) (net : Network) → by (xs ++ ys) net ≡ by xs net + by ys (after xs net)
   by-append [] ys net = let z = none net in omega arith
   by-append (x ∷ xs) ys net =
@@ -80,7 +78,7 @@ module _ (n : ℕ) (o : Opening) (xs ys zs : List Call) (k : ℕ) (one : starts 
       omega arith
 
   stays : Quiet n reached × ((j : ℕ) → j ≢ k → shownAt reached j ≡ shownAt middle j)
-  stays = begun-stays n k ys middle (record {
+  stays = silent-stays n k ys middle (record {
     quiet = quiet;
     one = omega (arith, number, one);
     none-more = λ p. omega (arith, number, one, started-before n o xs k p);
@@ -189,19 +187,19 @@ module _ (n : ℕ) (o : Opening) (cs : List Call) (one : startsIn (acceptedCalls
       ∙ after-append (until k h) (drop (second k) cs) (at m)
 
   -- The zone that was polled as permanent.
-  abbrev begun : ℕ
-  begun = settled .begun .0
+  abbrev firm : ℕ
+  firm = settled .some-permanent .0
 
-  ends : Quiet n end × (shownAt end begun ≡ shownAt (at (second begun)) begun) × ((j : ℕ) → j ≢ begun → shownAt end j ≡ shownAt (at m) j)
+  ends : Quiet n end × (shownAt end firm ≡ shownAt (at (second firm)) firm) × ((j : ℕ) → j ≢ firm → shownAt end j ≡ shownAt (at m) j)
   ends =
-      let h : begun < n = settled .begun .1 in
-      rw (at-end begun h, at-poll begun h) (settles n o (take m cs) (until begun h) (drop (second begun) cs) begun
-      (subst (λ (l : List Call). starts l (openNetwork n o) ≤ 1) (in-parts begun h) one) quiet-between (sent-same begun h .1)
-      (taken-same begun h .1)
-      (subst (λ (net : Network). permanentAt net begun ≡ true) (at-poll begun h) (settled .begun .2)))
+      let h : firm < n = settled .some-permanent .1 in
+      rw (at-end firm h, at-poll firm h) (settles n o (take m cs) (until firm h) (drop (second firm) cs) firm
+      (subst (λ (l : List Call). starts l (openNetwork n o) ≤ 1) (in-parts firm h) one) quiet-between (sent-same firm h .1)
+      (taken-same firm h .1)
+      (subst (λ (net : Network). permanentAt net firm ≡ true) (at-poll firm h) (settled .some-permanent .2)))
 
   -- What was polled is what is shown at the end: of that zone, of the others of the site, and of those above the count.
-  polled-other : (k : ℕ) → k < n → k ≢ begun → shownAt (at (second k)) k ≡ shownAt end k
+  polled-other : (k : ℕ) → k < n → k ≢ firm → shownAt (at (second k)) k ≡ shownAt end k
   polled-other k h ne =
       let e = ends .2 k ne in
       rw (at-poll k h) (shown-between (until k h) (drop (second k) cs) (at m) k (rw (← at-end k h) e)) ∙ sym e
@@ -212,17 +210,17 @@ module _ (n : ℕ) (o : Opening) (cs : List Call) (one : startsIn (acceptedCalls
       ∙ sym (shown-off n cs (openNetwork n o) (site-open n o) k h)
 
   polled : (k : ℕ) → shownAt (at (second k)) k ≡ shownAt end k
-  polled k = go (ltb k n) refl (same? k begun)
+  polled k = go (below? k n) (same? k firm)
     where
-      go : (p : Bool) → ltb k n ≡ p → Same k begun → shownAt (at (second k)) k ≡ shownAt end k
-      go false h q = polled-off k (ltb-false k n h)
-      go true h (inl q) = rw (q .0) (sym (ends .1))
-      go true h (inr q) = polled-other k (ltb-true k n h) (q .0)
+      go : (k < n) ⊎ (n ≤ k) → Same k firm → shownAt (at (second k)) k ≡ shownAt end k
+      go (inr h) q = polled-off k h
+      go (inl h) (inl q) = rw (q .0) (sym (ends .1))
+      go (inl h) (inr q) = polled-other k h (q .0)
 
   -- The recording is complete after the calls.
   pub settled-complete : Complete (networkSite (after cs (openNetwork n o)))
   settled-complete = (
-    (begun, shown-permanent (at (second begun)) end begun (ends .1) ∙ settled .begun .2),
+    (firm, shown-permanent (at (second firm)) end firm (ends .1) ∙ settled .some-permanent .2),
     λ i j. waits-none (end .channel i j) (none-anywhere n end (ends .0 .site) (ends .0 .none-waits) i j),
   )
 

@@ -50,11 +50,11 @@ starts-more c cs net = go (isAccepted (answer c net)) c (acceptedCalls cs (made 
 
 -- A call by which its zone may turn is counted: as a request taken, or as a start.
 not-turned : (p q s t : Bool) → cond {A = ℕ} (p && q && t) 1 0 ≡ 0 → cond {A = ℕ} (q && s) 1 0 ≡ 0 → p && (q && (s || t)) ≡ false
-not-turned false q s t taken begun = refl
-not-turned true false s t taken begun = refl
-not-turned true true true t taken begun = absurd (omega arith)
-not-turned true true false true taken begun = absurd (omega arith)
-not-turned true true false false taken begun = refl
+not-turned false q s t taken started = refl
+not-turned true false s t taken started = refl
+not-turned true true true t taken started = absurd (omega arith)
+not-turned true true false true taken started = absurd (omega arith)
+not-turned true true false false taken started = refl
 
 -- What is shown of a permanent zone stays, whatever the calls; so does what is shown of a zone that takes no request, where no start is
 -- accepted.
@@ -154,11 +154,11 @@ module _ (n : ℕ) where
       ∙ effect c net .shown-kept k (inr (not-both (eqb k (stepOf c)) (turns c net)
       (λ e f. true≢false (sym f ∙ rw (refused-at n net site c k e h)))))
 
--- ---- a zone that neither sends nor takes a request, and is permanent at the end
+-- ---- a silent zone: it neither sends nor takes a request, and is permanent at the end
 
 module _ (n k : ℕ) where
   -- At most one start is accepted, and none if zone k was permanent before.
-  pub record Begun (cs : List Call) (net : Network) : Type 0 where
+  pub record Silent (cs : List Call) (net : Network) : Type 0 where
     pub quiet : Quiet n net
     pub one : starts cs net ≤ 1
     pub none-more : permanentAt net k ≡ true → starts cs net ≡ 0
@@ -170,7 +170,7 @@ module _ (n k : ℕ) where
   abbrev Stays : List Call → Network → Type 0
   Stays cs net = Quiet n (after cs net) × ((j : ℕ) → j ≢ k → shownAt (after cs net) j ≡ shownAt net j)
 
-  module _ (c : Call) (cs : List Call) (net : Network) (b : Begun (c ∷ cs) net) where
+  module _ (c : Call) (cs : List Call) (net : Network) (b : Silent (c ∷ cs) net) where
     number : starts (c ∷ cs) net ≡ startIn c net + starts cs (made c net)
     number = starts-more c cs net
 
@@ -178,7 +178,7 @@ module _ (n k : ℕ) where
     rest s = omega (arith, number, b .one)
 
     -- The first call is no start.
-    traffic-first : startIn c net ≡ 0 → (Begun cs (made c net) → Stays cs (made c net)) → Stays (c ∷ cs) net
+    traffic-first : startIn c net ≡ 0 → (Silent cs (made c net) → Stays cs (made c net)) → Stays (c ∷ cs) net
     traffic-first s ih =
         let z : starts (c ∷ []) net ≡ 0 = starts-more c [] net ∙ omega (arith, s) in
         let e = shown-quiet n (c ∷ []) net (b .quiet) z in
@@ -213,10 +213,10 @@ module _ (n k : ℕ) where
     start-first s (inl q) = own-first s (q .0) (q .1)
     start-first s (inr q) = absurd (other-first s (q .1))
 
-  pub begun-stays : (cs : List Call) (net : Network) → Begun cs net → Stays cs net
-  begun-stays [] net b = (b .quiet, λ j _. refl)
-  begun-stays (c ∷ cs) net b = go (isAccepted (answer c net) && isStart c) refl (begun-stays cs (made c net))
+  pub silent-stays : (cs : List Call) (net : Network) → Silent cs net → Stays cs net
+  silent-stays [] net b = (b .quiet, λ j _. refl)
+  silent-stays (c ∷ cs) net b = go (isAccepted (answer c net) && isStart c) refl (silent-stays cs (made c net))
     where
-      go : (p : Bool) → isAccepted (answer c net) && isStart c ≡ p → (Begun cs (made c net) → Stays cs (made c net)) → Stays (c ∷ cs) net
+      go : (p : Bool) → isAccepted (answer c net) && isStart c ≡ p → (Silent cs (made c net) → Stays cs (made c net)) → Stays (c ∷ cs) net
       go true e ih = start-first c cs net b (rw e) (same? k (stepOf c))
       go false e ih = traffic-first c cs net b (rw e) ih

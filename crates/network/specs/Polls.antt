@@ -8,7 +8,7 @@ use Prim.Native.Nat.{ℕ, _+_, _<_, _≤_}
 use lib.Dec.{eqb}
 use lib.ListN.{take}
 use Rattle.rules.specs.Below.{sumBelow}
-use Rattle.rules.specs.Sets.{size}
+use Rattle.rules.specs.Sets.{nobody, size}
 use Rattle.rules.specs.Site.{Item, message, request, Site, Call, send, receive, start}
 use Rattle.rules.specs.Zone.{isPermanent}
 use Rattle.zone.specs.Zone.{localOf}
@@ -24,12 +24,12 @@ stepOf (start a) = a
 
 -- Zone k's counter of requests sent grows, with each accepted step of the zone, by the number of zones in the answer's set; `requests`
 -- of the zone part gives it.
-abbrev pub targetsIn : Option Step → ℕ
-targetsIn none = 0
-targetsIn (some x) = size (x .to)
+abbrev pub targetsOf : Option Step → ℕ
+targetsOf none = nobody
+targetsOf (some x) = x .to
 
 abbrev pub sentIn : Call → Network → ℕ → ℕ
-sentIn c net k = cond (eqb k (stepOf c) && isAccepted (answer c net)) (targetsIn (answer c net)) 0
+sentIn c net k = cond (eqb k (stepOf c) && isAccepted (answer c net)) (size (targetsOf (answer c net))) 0
 
 -- Its counter of requests taken grows by 1 with each request that it took off a channel.
 abbrev pub beginsWithRequest : List Item → Bool
@@ -76,7 +76,7 @@ pub record Settled (n : ℕ) (first second : ℕ → Poll) : Type 0 where
   pub sent-kept : (k : ℕ) → k < n → first k .sent ≡ second k .sent
   pub taken-kept : (k : ℕ) → k < n → first k .taken ≡ second k .taken
   pub all-taken : sumBelow n (λ k. second k .sent) ≡ sumBelow n (λ k. second k .taken)
-  pub begun : (k : ℕ) × (k < n) × (isPermanent (second k .zone .checkpoint) ≡ true)
+  pub some-permanent : (k : ℕ) × (k < n) × (isPermanent (second k .zone .checkpoint) ≡ true)
 
 -- The zones as they were polled, for `shownBy`, which looks at no channel of a site.
 abbrev pub polledSite : (ℕ → Poll) → Site

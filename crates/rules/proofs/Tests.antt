@@ -2,9 +2,9 @@
 use mathlib.Core.Path.{_≡_, refl, sym, _∙_}
 use mathlib.Core.Bool.{Bool, true, false, _&&_, _||_, and-false, true≢false, false≢true, not}
 use mathlib.Core.Logic.{_≢_, _⊎_, inl, inr}
-use Prim.Native.Nat.{ℕ}
-use lib.Dec.{eqb}
-use borrow.Author.Tests.{eqb-true, eqb-false, eq-eqb, ne-eqb, not-true, not-false}
+use Prim.Native.Nat.{ℕ, _≤_, _<_}
+use lib.Dec.{eqb, ltb}
+use borrow.Author.Tests.{eqb-true, eqb-false, eq-eqb, ne-eqb, not-true, not-false, ltb-true, ltb-false}
 
 pub eqb-refl : (a : ℕ) → eqb a a ≡ true
 eqb-refl a = eq-eqb a a refl
@@ -46,6 +46,14 @@ same? k b = go (eqb k b) refl
     go : (p : Bool) → eqb k b ≡ p → Same k b
     go true e = inl (eqb-true k b e, e)
     go false e = inr (eqb-false k b e, e)
+
+-- Is it below n?
+pub below? : (k n : ℕ) → (k < n) ⊎ (n ≤ k)
+below? k n = go (ltb k n) refl
+  where
+    go : (p : Bool) → ltb k n ≡ p → (k < n) ⊎ (n ≤ k)
+    go true e = inl (ltb-true k n e)
+    go false e = inr (ltb-false k n e)
 
 -- The channel from i to j is the one from x to y.
 pub both-true : (i x j y : ℕ) → eqb i x && eqb j y ≡ true → (i ≡ x) × (j ≡ y)
