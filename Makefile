@@ -1,4 +1,4 @@
-# The Cut Recorder for C and C++: libcut.a, libcut.so, the headers and a pkg-config file.
+# The Cut Recorder for C and C++: libcut.a, libcut.so, the headers, a pkg-config file, and what a maker reads.
 #
 #     make                            builds into target/lib
 #     make install PREFIX=/usr        builds and installs; DESTDIR=/some/folder stands before every path, for whoever makes packages
@@ -9,11 +9,13 @@ PREFIX ?= /usr/local
 LIBDIR ?= $(PREFIX)/lib
 INCLUDEDIR ?= $(PREFIX)/include
 PKGCONFIGDIR ?= $(LIBDIR)/pkgconfig
+DOCDIR ?= $(PREFIX)/share/doc/cut
 INSTALL ?= install
 RT ?= rt
 
 out := target/lib
 headers := $(wildcard c/cut/*.h)
+papers := README.md docs/INTEGRATION.md docs/RULES.md c/example.c c/desk.c
 sources := crates.txt $(shell find crates -name '*.rt' -o -name '*.antt')
 version := $(shell sed -n 's/^.define CUT_VERSION "\(.*\)"/\1/p' c/cut/refusal.h)
 soname := libcut.so.$(firstword $(subst ., ,$(version)))
@@ -50,19 +52,21 @@ $(out)/cut.pc: FORCE
 	@if cmp -s $@.new $@; then rm $@.new; else mv $@.new $@; fi
 
 install: all
-	$(INSTALL) -d '$(DESTDIR)$(LIBDIR)' '$(DESTDIR)$(INCLUDEDIR)/cut' '$(DESTDIR)$(PKGCONFIGDIR)'
+	$(INSTALL) -d '$(DESTDIR)$(LIBDIR)' '$(DESTDIR)$(INCLUDEDIR)/cut' '$(DESTDIR)$(PKGCONFIGDIR)' '$(DESTDIR)$(DOCDIR)'
 	$(INSTALL) -m 644 $(out)/libcut.a '$(DESTDIR)$(LIBDIR)'
 	$(INSTALL) -m 755 $(out)/$(shared) '$(DESTDIR)$(LIBDIR)'
 	ln -sf $(shared) '$(DESTDIR)$(LIBDIR)/$(soname)'
 	ln -sf $(soname) '$(DESTDIR)$(LIBDIR)/libcut.so'
 	$(INSTALL) -m 644 $(headers) '$(DESTDIR)$(INCLUDEDIR)/cut'
 	$(INSTALL) -m 644 $(out)/cut.pc '$(DESTDIR)$(PKGCONFIGDIR)'
+	$(INSTALL) -m 644 $(papers) '$(DESTDIR)$(DOCDIR)'
 
 uninstall:
 	for f in libcut.a libcut.so $(soname) $(shared); do rm -f '$(DESTDIR)$(LIBDIR)'/$$f; done
 	for f in $(notdir $(headers)); do rm -f '$(DESTDIR)$(INCLUDEDIR)/cut'/$$f; done
+	for f in $(notdir $(papers)); do rm -f '$(DESTDIR)$(DOCDIR)'/$$f; done
 	rm -f '$(DESTDIR)$(PKGCONFIGDIR)/cut.pc'
-	rmdir '$(DESTDIR)$(INCLUDEDIR)/cut' 2>/dev/null || true
+	rmdir '$(DESTDIR)$(INCLUDEDIR)/cut' '$(DESTDIR)$(DOCDIR)' 2>/dev/null || true
 
 clean:
 	rm -rf $(out)

@@ -16,14 +16,17 @@ installed() {
 
 # The same files with and without DESTDIR, and the folders that cut.pc names are those without it.
 prefix=$scratch/usr
-make --silent install PREFIX="$prefix" LIBDIR="$prefix/lib" INCLUDEDIR="$prefix/include" PKGCONFIGDIR="$prefix/lib/pkgconfig" DESTDIR=
-make --silent install PREFIX=/usr LIBDIR=/usr/lib64 INCLUDEDIR=/usr/include PKGCONFIGDIR=/usr/lib64/pkgconfig DESTDIR="$scratch/stage"
+make --silent install PREFIX="$prefix" LIBDIR="$prefix/lib" INCLUDEDIR="$prefix/include" PKGCONFIGDIR="$prefix/lib/pkgconfig" \
+    DOCDIR="$prefix/share/doc/cut" DESTDIR=
+make --silent install PREFIX=/usr LIBDIR=/usr/lib64 INCLUDEDIR=/usr/include PKGCONFIGDIR=/usr/lib64/pkgconfig \
+    DOCDIR=/usr/share/doc/cut DESTDIR="$scratch/stage"
 installed "$prefix" >"$scratch/plain"
 installed "$scratch/stage/usr" | sed 's|^./lib64/|./lib/|' | sort >"$scratch/staged"
 cmp "$scratch/plain" "$scratch/staged" || fail "make install writes other files with DESTDIR."
 grep -qx 'prefix=/usr' "$scratch/stage/usr/lib64/pkgconfig/cut.pc" || fail "cut.pc does not name PREFIX."
 ! grep -q "$scratch" "$scratch/stage/usr/lib64/pkgconfig/cut.pc" || fail "cut.pc names DESTDIR."
-make --silent uninstall PREFIX=/usr LIBDIR=/usr/lib64 INCLUDEDIR=/usr/include PKGCONFIGDIR=/usr/lib64/pkgconfig DESTDIR="$scratch/stage"
+make --silent uninstall PREFIX=/usr LIBDIR=/usr/lib64 INCLUDEDIR=/usr/include PKGCONFIGDIR=/usr/lib64/pkgconfig \
+    DOCDIR=/usr/share/doc/cut DESTDIR="$scratch/stage"
 [ -z "$(installed "$scratch/stage")" ] || fail "make uninstall leaves files."
 
 # Only this installation can be found.

@@ -1,5 +1,5 @@
--- On every struct that a call gave, a call for C is the engine's call: so a list of them is the same list of calls, to which demand 3
--- applies.
+-- On every struct that a call gave, a call for C answers what the engine's call answers: so from an opening on, a list of calls for C gives
+-- the runs of the same list of the engine's calls, of which demand 3 speaks.
 use mathlib.Core.Path.{_≡_, refl, sym, _∙_, ap}
 use mathlib.Core.Bool.{Bool, true, false}
 use mathlib.Core.List.{List, [], _∷_}

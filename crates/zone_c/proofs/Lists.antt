@@ -1,4 +1,4 @@
--- On what the calls gave, a list of calls for C is the same list of the zone part's calls.
+-- From an opening on, a list of calls for C answers what the same list of the zone part's calls answers, and ends in the same zone.
 use mathlib.Core.Path.{_≡_, refl, _∙_, ap}
 use mathlib.Core.List.{List, [], _∷_, map}
 use Prim.Native.Nat.{ℕ}
