@@ -1,10 +1,12 @@
 /* The controller's loop of docs/INTEGRATION.md, run as it stands there: tools/installed.sh takes it out of the document into loop.inc. Zone 1
- * of 3 hands over, takes, turns firm by a request, sends its own and drops the next. Exits 1 if a value is not as it must be. */
+ * of 3 hands over, takes, waits for room, turns firm by a request, sends its own and drops the next; zone 2 starts. Exits 1 if a value is not
+ * as it must be. */
 #include <stdint.h>
 #include <stdio.h>
 #include <stdlib.h>
 
 static void put(uint8_t to, uint16_t word);
+static int room(uint8_t set);
 static void log_entry(int kind, uint8_t from, uint8_t to, uint8_t cars, uint16_t events);
 
 #include "loop.inc"
@@ -21,6 +23,14 @@ static struct {
     uint8_t from, to, cars;
     uint16_t events;
 } entry;
+
+/* The zones whose lines are full. */
+static uint8_t full;
+
+static int room(uint8_t set)
+{
+    return (set & full) == 0;
+}
 
 static void put(uint8_t to, uint16_t word)
 {
@@ -69,20 +79,29 @@ int main(void)
     must_log(2, TOOK, 3, 1, 5, 2, "they are in the log, as own event 2");
     must(line.times == 1 && sent == 0 && taken == 0, "no request was sent or taken");
 
-    must(take(2, 512 + 2) == CUT_ACCEPTED && zone.mark == CUT_MARK_PERMANENT, "a request makes the zone firm");
+    full = 4;
+    must(hand_over(3, 1) == WAITS && zone.stock == 11 && line.times == 1 && entry.times == 2, "a hand-over to a full line waits");
+    must(take(2, 512 + 2) == WAITS && zone.mark == CUT_MARK_NONE && taken == 0, "so does a request that must be passed on there");
+    full = 0;
+    must(hand_over(3, 1) == WAITS && line.times == 1, "which holds its lines, though they are free again");
+
+    must(take(2, 512 + 2) == CUT_ACCEPTED && zone.mark == CUT_MARK_PERMANENT, "the request makes the zone firm");
     must_put(2, 3, 512 + 7, "a request goes to 3, with all three zones");
     must(sent == 1 && taken == 1, "both are counted");
     must_log(3, TOOK, 2, 1, 0, 0, "and its receipt is in the log, as no own event");
     must(take(2, 512 + 2) == CUT_ACCEPTED && line.times == 2 && sent == 1 && taken == 2, "a second one is dropped, and counted as taken");
-    must(hand_over(2, 1) == CUT_ACCEPTED, "1 car is handed to 2");
-    must_put(3, 2, 256 + 1, "with the marked bit");
+    must(hand_over(3, 1) == CUT_ACCEPTED, "1 car is handed to 3, whose line is held no more");
+    must_put(3, 3, 256 + 1, "with the marked bit");
     must(take(2, 256 + 3) == CUT_ACCEPTED && zone.stock == 13 && zone.saved.stock == 11, "a marked hand-over leaves the firm mark");
     must(start() == CUT_REFUSED_STARTED && sent == 1, "a start is refused");
     must(entry.times == 6, "and is in no log");
     must(take(2, 768) == CUT_REFUSED_ZONE && take(2, 512 + 8) == CUT_REFUSED_ZONE && taken == 2, "no item of this site");
 
     zone = cut_zone_open(3, 2, 10).zone;
-    must(take(1, 4) == CUT_ACCEPTED && start() == CUT_ACCEPTED && sent == 2, "zone 2, which heard from 1, starts and sends a request");
+    full = 1;
+    must(take(1, 4) == CUT_ACCEPTED && start() == WAITS && sent == 1, "the start of zone 2, which heard from 1, waits for room to 1");
+    full = 0;
+    must(start() == CUT_ACCEPTED && sent == 2, "and then sends a request");
     must_put(4, 1, 512 + 3, "to 1, with its heard set");
     must_log(8, STARTED, 2, 2, 0, 0, "and its start is in the log");
     return 0;

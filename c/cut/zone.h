@@ -80,11 +80,11 @@ cut_step cut_zone_send(cut_zone zone, uint8_t to, uint8_t cars);
 
 /* Receives a message (takes a "hand-over") from zone `from`; any flag ("marked bit") but 0 counts as 1. Refused with: 1; 5 `from` is not on
  * the site or is the zone itself; 6; 20 the stock would exceed 65,535. With 6 and 20 the item stays first on its channel ("line"); with 5 it
- * is no item of this site, and is taken off. Stack: CUT_ZONE_STACK. */
+ * is no item of this site. Stack: CUT_ZONE_STACK. */
 cut_step cut_zone_receive(cut_zone zone, uint8_t from, uint8_t cars, uint8_t flag);
 
 /* Receives (takes) a "request" with its set: send a request carrying `carried` to each zone of `to`. Refused with: 1; 5 the set names a zone
- * off the site. Stack: CUT_ZONE_STACK. */
+ * off the site; then it is no item of this site. Stack: CUT_ZONE_STACK. */
 cut_step cut_zone_request(cut_zone zone, uint8_t set);
 
 /* Starts a recording ("start"), with this zone as its initiator ("starter"): send a request carrying `carried` to each zone of `to`. Refused
