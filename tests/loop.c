@@ -5,10 +5,6 @@
 #include <stdio.h>
 #include <stdlib.h>
 
-static void put(uint8_t to, uint16_t word);
-static int room(uint8_t set);
-static void log_entry(int kind, uint8_t from, uint8_t to, uint8_t cars, uint16_t events);
-
 #include "loop.inc"
 
 /* What was put and logged last, and how often. */
