@@ -99,7 +99,7 @@ typedef struct cut_head {
 typedef struct cut_run {
     cut_head head;                             /* the zones and the "opening" */
     uint16_t items[CUT_CHANNELS * CUT_PLACES]; /* the "items" on the channels ("lines"), 16 places for each */
-    uint8_t lens[CUT_CHANNELS];                /* the number of items on each channel */
+    uint8_t lens[CUT_CHANNELS];                /* the number of items on each channel ("line") */
     uint16_t journal[CUT_RECORDS_MAX];         /* the "journal": head.records record words, as above */
 } cut_run;
 

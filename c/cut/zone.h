@@ -62,7 +62,7 @@ typedef struct cut_step {
     uint8_t refusal; /* the "refusal", an enum cut_refusal */
     uint8_t flag;    /* the flag ("marked bit") of the message that is sent, 0 or 1 */
     uint8_t to;      /* the request targets ("the set to be sent requests"); 0 where none is sent */
-    uint8_t carried; /* the set that each of these requests carries; 0 where none is sent */
+    uint8_t carried; /* "the set these carry": of each of these requests; 0 where none is sent */
 } cut_step;
 
 CUT_STATIC_ASSERT(sizeof(cut_saved) == 4 && sizeof(cut_zone) == 12, "the layout that the library has");

@@ -186,20 +186,20 @@ module _ (n : ℕ) (o : Opening) (cs : List Call) (one : startsIn (acceptedCalls
       ∙ after-append (take m cs) (until k h ++ drop (second k) cs) (openNetwork n o)
       ∙ after-append (until k h) (drop (second k) cs) (at m)
 
-  -- The zone that was polled as permanent.
-  abbrev firm : ℕ
-  firm = settled .some-permanent .0
+  -- The zone that is known to be permanent, since it was polled as such.
+  abbrev known : ℕ
+  known = settled .some-permanent .0
 
-  ends : Quiet n end × (shownAt end firm ≡ shownAt (at (second firm)) firm) × ((j : ℕ) → j ≢ firm → shownAt end j ≡ shownAt (at m) j)
+  ends : Quiet n end × (shownAt end known ≡ shownAt (at (second known)) known) × ((j : ℕ) → j ≢ known → shownAt end j ≡ shownAt (at m) j)
   ends =
-      let h : firm < n = settled .some-permanent .1 in
-      rw (at-end firm h, at-poll firm h) (settles n o (take m cs) (until firm h) (drop (second firm) cs) firm
-      (subst (λ (l : List Call). starts l (openNetwork n o) ≤ 1) (in-parts firm h) one) quiet-between (sent-same firm h .1)
-      (taken-same firm h .1)
-      (subst (λ (net : Network). permanentAt net firm ≡ true) (at-poll firm h) (settled .some-permanent .2)))
+      let h : known < n = settled .some-permanent .1 in
+      rw (at-end known h, at-poll known h) (settles n o (take m cs) (until known h) (drop (second known) cs) known
+      (subst (λ (l : List Call). starts l (openNetwork n o) ≤ 1) (in-parts known h) one) quiet-between (sent-same known h .1)
+      (taken-same known h .1)
+      (subst (λ (net : Network). permanentAt net known ≡ true) (at-poll known h) (settled .some-permanent .2)))
 
   -- What was polled is what is shown at the end: of that zone, of the others of the site, and of those above the count.
-  polled-other : (k : ℕ) → k < n → k ≢ firm → shownAt (at (second k)) k ≡ shownAt end k
+  polled-other : (k : ℕ) → k < n → k ≢ known → shownAt (at (second k)) k ≡ shownAt end k
   polled-other k h ne =
       let e = ends .2 k ne in
       rw (at-poll k h) (shown-between (until k h) (drop (second k) cs) (at m) k (rw (← at-end k h) e)) ∙ sym e
@@ -210,9 +210,9 @@ module _ (n : ℕ) (o : Opening) (cs : List Call) (one : startsIn (acceptedCalls
       ∙ sym (shown-off n cs (openNetwork n o) (site-open n o) k h)
 
   polled : (k : ℕ) → shownAt (at (second k)) k ≡ shownAt end k
-  polled k = go (below? k n) (same? k firm)
+  polled k = go (below? k n) (same? k known)
     where
-      go : (k < n) ⊎ (n ≤ k) → Same k firm → shownAt (at (second k)) k ≡ shownAt end k
+      go : (k < n) ⊎ (n ≤ k) → Same k known → shownAt (at (second k)) k ≡ shownAt end k
       go (inr h) q = polled-off k h
       go (inl h) (inl q) = rw (q .0) (sym (ends .1))
       go (inl h) (inr q) = polled-other k h (q .0)
@@ -220,7 +220,7 @@ module _ (n : ℕ) (o : Opening) (cs : List Call) (one : startsIn (acceptedCalls
   -- The recording is complete after the calls.
   pub settled-complete : Complete (networkSite (after cs (openNetwork n o)))
   settled-complete = (
-    (firm, shown-permanent (at (second firm)) end firm (ends .1) ∙ settled .some-permanent .2),
+    (known, shown-permanent (at (second known)) end known (ends .1) ∙ settled .some-permanent .2),
     λ i j. waits-none (end .channel i j) (none-anywhere n end (ends .0 .site) (ends .0 .none-waits) i j),
   )
 
