@@ -7,6 +7,7 @@ use Prim.Native.Nat.{ℕ, _+_, _-_, _≤_, _<_}
 use native.Mathlib.Omega.{arith}
 use lib.Dec.{eqb, leb}
 use borrow.Author.Tests.{leb-true, ne-eqb}
+use Rattle.rules.specs.Edition.{isTraffic}
 use Rattle.rules.specs.Opening.{Opening}
 use Rattle.rules.specs.Change.{join, cons-if}
 use Rattle.rules.specs.Site.{Item, message, request, Site, Call, send, receive, start, stepS, openS}
@@ -115,13 +116,13 @@ moves-within n [] s h = tt
 moves-within n (c ∷ cs) s h = all-append (Within n) (moveOf c s) (moves cs (stepS c s)) (one c (h .0))
     (moves-within n cs (stepS c s) (h .1))
   where
-    taken-within : (a b : ℕ) (l : List Item) → (a < n) × (b < n) → All (Within n) (taking a b l)
+    taken-within : (a b : ℕ) (l : List Item) → (a < n) × (b < n) → All (Within n) (taking (s .edition) a b l)
     taken-within a b [] w = tt
-    taken-within a b (message c flag ∷ l) w = (w, tt)
+    taken-within a b (message c flag ∷ l) w = all-cons-if (Within n) (isTraffic (s .edition) c) _ [] w tt
     taken-within a b (request set ∷ l) w = tt
 
     one : (c : Call) → Between n c → All (Within n) (moveOf c s)
-    one (send a b c) w = (w, tt)
+    one (send a b c) w = all-cons-if (Within n) (isTraffic (s .edition) c) _ [] w tt
     one (receive a b) w = taken-within a b (s .channel a b) w
     one (start a) w = tt
 

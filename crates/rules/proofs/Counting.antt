@@ -19,7 +19,7 @@ use Rattle.rules.specs.declared.Checkpoint.{Checkpoint}
 use Rattle.rules.specs.declared.Checkpoint.the-variants.{None, Mutable, Permanent}
 use Rattle.rules.proofs.Tests.{eqb-refl}
 use Rattle.rules.proofs.Guarded.{on-true, on-swap, on-map, on-same, on-keeps, on-back}
-use Rattle.rules.proofs.Lists.{keep, keep-join, cons-append, map-append, map-join, map-cons-if}
+use Rattle.rules.proofs.Lists.{keep, keep-join, cons-append, map-append, map-join, map-if}
 use Rattle.rules.proofs.Tagged.{Event, zoneOf, isPost}
 use Rattle.rules.proofs.Untagged.{untag, owner-untag}
 use Rattle.rules.proofs.History.{History, openH, actingOf, receivingOf, acted, ownH, receiveH, popH, turnH, beginH, movesOf}
@@ -153,8 +153,8 @@ module _ (h t : History) (e : Event) (g : Local → Local) (logged : t .log ≡ 
     past = λ z. subst Past (sym (changed z)) (on-keeps Past (eqb z (zoneOf e)) g (h .now .zone z) (keeps (h .now .zone z))
         (before .past z));
     parts = λ F shown f. let q = before .parts F shown (fits-before F shown f) in (
-      rw (moves-join, logged, inside-join, keep-join (inFirst F), map-append, map-cons-if, test F shown f, q .0),
-      rw (moves-join, logged, outside-join, keep-join (inSecond F), map-append, map-cons-if, test F shown f, q .1),
+      rw (moves-join, logged, inside-join, keep-join (inFirst F), map-append, map-if, test F shown f, q .0),
+      rw (moves-join, logged, outside-join, keep-join (inSecond F), map-append, map-if, test F shown f, q .1),
     );
   }
 
@@ -169,15 +169,17 @@ turn-counts b set h q = record {
 
 pub counts-kept : Kept Counts
 counts-kept = record {
-  at-own = λ x h _ q. one-counts h (ownH x h) (actingOf x (h .now)) (acted x) refl (λ k. refl) (λ z. refl)
+  at-own = λ x h _ _ q. one-counts h (ownH x h) (actingOf x (h .now)) (acted x) refl (λ k. refl) (λ z. refl)
       (λ z le. omega arith)
       (λ p z n le f. (fit-own p (z .checkpoint) (z .events) n le f) .0)
       (λ p n le f. (fit-own p (h .now .zone (x .zone) .checkpoint) (h .now .zone (x .zone) .events) n le f) .1) q;
-  at-receive = λ a b c flag l h _ q. one-counts h (receiveH a b c flag h) (receivingOf a b c flag (h .now)) (received a c flag) refl
+  at-receive = λ a b c flag l h _ _ q. one-counts h (receiveH a b c flag h) (receivingOf a b c flag (h .now)) (received a c flag) refl
       (λ k. refl) (λ z. refl)
       (λ z le. past-after (z .checkpoint) (saved z) flag le)
       (λ p z n le f. (fit-receive p (z .checkpoint) (saved z) flag n le f) .0)
       (λ p n le f. (fit-receive p (h .now .zone b .checkpoint) (saved (h .now .zone b)) flag n le f) .1) q;
+  at-check = λ a b c h _ q. record { number = q .number; past = q .past; parts = q .parts };
+  at-checked = λ a b c flag l h _ _ q. record { number = q .number; past = q .past; parts = q .parts };
   at-drop = λ a b set l h _ _ q. record { number = q .number; past = q .past; parts = q .parts };
   at-request = λ a b set l h _ _ q. turn-counts b set (popH a b h)
       (record { number = q .number; past = q .past; parts = q .parts });

@@ -7,8 +7,9 @@ use mathlib.Core.List.{List, [], _∷_, append-nil, map, tail}
 use Prim.Native.Nat.{ℕ, _+_, _≤_}
 use lib.Dec.{eqb}
 use borrow.Author.Tests.{eqb-true, not-true}
+use Rattle.rules.specs.Edition.{isTraffic}
 use Rattle.rules.specs.Opening.{Opening}
-use Rattle.rules.specs.Change.{on, join}
+use Rattle.rules.specs.Change.{on, join, cons-if}
 use Rattle.rules.specs.Sets.{has, nobody}
 use Rattle.rules.specs.Zone.{hasCheckpoint, saved, received, checkpointAfter, requested, madePermanent, targets, carried, opened}
 use Rattle.rules.specs.Site.{Item, message, request}
@@ -18,32 +19,32 @@ use Rattle.rules.specs.declared.Saved.{Saved}
 use Rattle.rules.specs.declared.Checkpoint.{Checkpoint}
 use Rattle.rules.specs.declared.Checkpoint.the-variants.{None, Mutable, Permanent}
 use Rattle.rules.proofs.Tests.{eqb-refl, or-left, or-right, or-off-left, or-off-right, and-left, and-right}
-use Rattle.rules.proofs.Guarded.{on-keeps, on-same, on-same-at, on-map, on-map-at, on-true}
-use Rattle.rules.proofs.Lists.{All, all-map, all-keep, keep, keep-join}
+use Rattle.rules.proofs.Guarded.{on-keeps, on-same, on-same-at, on-map, on-map-at, on-true, on-false, on-still}
+use Rattle.rules.proofs.Lists.{All, all-map, all-keep, keep, keep-join, join-if, tail-if, map-if}
 use Rattle.rules.proofs.Acts.{Act}
 use Rattle.rules.proofs.Tagged.{Tagged, Event, acting, receiving, zoneOf, isPost, TaggedPark, tagged, actedT, takenT, Step, stockBy, step-stock, Apart, tagged≡, Steps, steps-join, forward}
 use Rattle.rules.proofs.Untagged.{carsOf, plain, park≡}
 use Rattle.rules.proofs.Checkpoints.{has-depsAfter}
-use Rattle.rules.proofs.History.{History, openH, NoCheckpoint, Depends, actingOf, receivingOf, acted, ownH, own-deps, receiveH, popH, turnH, beginH, at-channel}
-use Rattle.rules.proofs.Kept.{Kept}
+use Rattle.rules.proofs.History.{History, openH, NoCheckpoint, Depends, actingOf, receivingOf, acted, ownH, own-deps, receiveH, checkH, popH, turnH, beginH, at-channel}
+use Rattle.rules.proofs.Kept.{Carries, Kept}
 use Rattle.rules.proofs.Dependencies.{PreOnly, pre-kept}
 
--- The tagged park of a site: requests are left out, and the flag of a message is its tag.
-abbrev pub messages : List Item → List Tagged
-messages [] = []
-messages (message c flag ∷ l) = tagged c flag ∷ messages l
-messages (request set ∷ l) = messages l
+-- The tagged park of a site: requests and line checks are left out, and the flag of a message is its tag.
+abbrev pub messages : ℕ → List Item → List Tagged
+messages e [] = []
+messages e (message c flag ∷ l) = cons-if (isTraffic e c) (tagged c flag) (messages e l)
+messages e (request set ∷ l) = messages e l
 
 abbrev pub parkOf : History → TaggedPark
-parkOf h = record { stock = λ k. h .now .zone k .stock; channel = λ i j. messages (h .now .channel i j) }
+parkOf h = record { stock = λ k. h .now .zone k .stock; channel = λ i j. messages (h .now .edition) (h .now .channel i j) }
 
-cars-messages : (l : List Item) → map carsOf (messages l) ≡ carsOn l
-cars-messages [] = refl
-cars-messages (message c flag ∷ l) = ap (λ t. c ∷ t) (cars-messages l)
-cars-messages (request set ∷ l) = cars-messages l
+cars-messages : (e : ℕ) (l : List Item) → map carsOf (messages e l) ≡ carsOn e l
+cars-messages e [] = refl
+cars-messages e (message c flag ∷ l) = map-if carsOf (isTraffic e c) _ (messages e l) ∙ ap (cons-if (isTraffic e c) c) (cars-messages e l)
+cars-messages e (request set ∷ l) = cars-messages e l
 
 pub plain-park : (h : History) → plain (parkOf h) ≡ present (h .now)
-plain-park h = park≡ _ _ (λ k. refl) (λ i j. cars-messages (h .now .channel i j))
+plain-park h = park≡ _ _ (λ k. refl) (λ i j. cars-messages (h .now .edition) (h .now .channel i j))
 
 abbrev pub openT : Opening → TaggedPark
 openT v = record { stock = v .stocks; channel = λ i j. [] }
@@ -81,49 +82,79 @@ abbrev pub Cuts : Opening → History → Type 0
 Cuts v h = (F : ℕ → Bool) → Closed F h → Halves v F h
 
 -- The tagged park after each step.
-messages-join : (l : List Item) (c : ℕ) (flag : Bool) → messages (join (message c flag) l) ≡ join (tagged c flag) (messages l)
-messages-join [] c flag = refl
-messages-join (message d n ∷ l) c flag = ap (λ t. tagged d n ∷ t) (messages-join l c flag)
-messages-join (request set ∷ l) c flag = messages-join l c flag
+messages-join : (e : ℕ) (l : List Item) (c : ℕ) (flag : Bool)
+    → messages e (join (message c flag) l) ≡ on (isTraffic e c) (join (tagged c flag)) (messages e l)
+messages-join e [] c flag = sym (join-if (isTraffic e c) (tagged c flag))
+messages-join e (message d n ∷ l) c flag =
+    ap (cons-if (isTraffic e d) (tagged d n)) (messages-join e l c flag) ∙ cons-on (isTraffic e d) (isTraffic e c) _ _ (messages e l)
+  where
+    cons-on : (p q : Bool) (x y : Tagged) (t : List Tagged) → cons-if p x (on q (join y) t) ≡ on q (join y) (cons-if p x t)
+    cons-on true true x y t = refl
+    cons-on true false x y t = refl
+    cons-on false q x y t = refl
+messages-join e (request set ∷ l) c flag = messages-join e l c flag
 
-messages-request : (l : List Item) (set : ℕ) → messages (join (request set) l) ≡ messages l
-messages-request [] set = refl
-messages-request (message d n ∷ l) set = ap (λ t. tagged d n ∷ t) (messages-request l set)
-messages-request (request q ∷ l) set = messages-request l set
+messages-request : (e : ℕ) (l : List Item) (set : ℕ) → messages e (join (request set) l) ≡ messages e l
+messages-request e [] set = refl
+messages-request e (message d n ∷ l) set = ap (cons-if (isTraffic e d) (tagged d n)) (messages-request e l set)
+messages-request e (request q ∷ l) set = messages-request e l set
 
 -- At the channel whose first item is taken.
-messages-tail : (p : Bool) (l : List Item) (c : ℕ) (flag : Bool) (r : List Item) → (p ≡ true → l ≡ message c flag ∷ r)
-    → messages (on p tail l) ≡ on p tail (messages l)
-messages-tail true l c flag r e = rw (e refl)
-messages-tail false l c flag r e = refl
+messages-tail : (e : ℕ) (p : Bool) (l : List Item) (c : ℕ) (flag : Bool) (r : List Item) → (p ≡ true → l ≡ message c flag ∷ r)
+    → messages e (on p tail l) ≡ on p (on (isTraffic e c) tail) (messages e l)
+messages-tail e true l c flag r at = rw (at refl) (sym (tail-if (isTraffic e c) (tagged c flag) (messages e r)))
+messages-tail e false l c flag r at = refl
 
-messages-drop : (p : Bool) (l : List Item) (set : ℕ) (r : List Item) → (p ≡ true → l ≡ request set ∷ r)
-    → messages (on p tail l) ≡ messages l
-messages-drop true l set r e = rw (e refl)
-messages-drop false l set r e = refl
+messages-drop : (e : ℕ) (p : Bool) (l : List Item) (set : ℕ) (r : List Item) → (p ≡ true → l ≡ request set ∷ r)
+    → messages e (on p tail l) ≡ messages e l
+messages-drop e true l set r at = rw (at refl)
+messages-drop e false l set r at = refl
 
-park-own : (x : Act) (h : History) → parkOf (ownH x h) ≡ actedT x (hasCheckpoint (h .now .zone (x .zone) .checkpoint)) (parkOf h)
-park-own x h = tagged≡ _ _
+park-own : (x : Act) (h : History) → Carries x h
+    → parkOf (ownH x h) ≡ actedT x (hasCheckpoint (h .now .zone (x .zone) .checkpoint)) (parkOf h)
+park-own x h carries = tagged≡ _ _
     (λ k. on-map (λ (z : Local). z .stock) (eqb k (x .zone)) (acted x) (x .change) (h .now .zone k) refl)
-    (λ i j. on-map messages (x .goes i j) _ _ (h .now .channel i j)
-    (messages-join (h .now .channel i j) (x .cars) (hasCheckpoint (h .now .zone (x .zone) .checkpoint))))
+    (λ i j. on-map-at (messages (h .now .edition)) (x .goes i j) _ _ (h .now .channel i j)
+    (λ t. messages-join (h .now .edition) (h .now .channel i j) (x .cars) (hasCheckpoint (h .now .zone (x .zone) .checkpoint))
+    ∙ on-true (isTraffic (h .now .edition) (x .cars)) _ _ (carries i j t)))
+
+park-check : (a b c : ℕ) (h : History) → isTraffic (h .now .edition) c ≡ false → parkOf (checkH a b c h) ≡ parkOf h
+park-check a b c h e = tagged≡ _ _ (λ k. refl)
+    (λ i j. on-same (messages (h .now .edition)) (eqb i a && eqb j b) _ (h .now .channel i j)
+    (messages-join (h .now .edition) (h .now .channel i j) c (hasCheckpoint (h .now .zone a .checkpoint))
+    ∙ on-false (isTraffic (h .now .edition) c) _ _ e))
+
+-- The first message of a channel is taken; p: whether it is traffic.
+taken-channel : (a b c : ℕ) (flag : Bool) (l : List Item) (h : History) (p : Bool) → h .now .channel a b ≡ message c flag ∷ l
+    → isTraffic (h .now .edition) c ≡ p → (i j : ℕ)
+    → messages (h .now .edition) ((popH a b h) .now .channel i j)
+    ≡ on (eqb i a && eqb j b) (on p tail) (messages (h .now .edition) (h .now .channel i j))
+taken-channel a b c flag l h p e t i j =
+    messages-tail (h .now .edition) (eqb i a && eqb j b) (h .now .channel i j) c flag l (λ t. at-channel a b i j h _ t e)
+    ∙ ap (λ (q : Bool). on (eqb i a && eqb j b) (on q tail) (messages (h .now .edition) (h .now .channel i j))) t
 
 park-receive : (a b c : ℕ) (flag : Bool) (l : List Item) (h : History) → h .now .channel a b ≡ message c flag ∷ l
-    → parkOf (receiveH a b c flag h) ≡ takenT a b c (parkOf h)
-park-receive a b c flag l h e = tagged≡ _ _
+    → isTraffic (h .now .edition) c ≡ true → parkOf (receiveH a b c flag h) ≡ takenT a b c (parkOf h)
+park-receive a b c flag l h e t = tagged≡ _ _
     (λ k. on-map (λ (z : Local). z .stock) (eqb k b) (received a c flag) (λ n. n + c) (h .now .zone k) refl)
-    (λ i j. messages-tail (eqb i a && eqb j b) (h .now .channel i j) c flag l (λ t. at-channel a b i j h _ t e))
+    (taken-channel a b c flag l h true e t)
+
+park-checked : (a b c : ℕ) (flag : Bool) (l : List Item) (h : History) → h .now .channel a b ≡ message c flag ∷ l
+    → isTraffic (h .now .edition) c ≡ false → parkOf (popH a b h) ≡ parkOf h
+park-checked a b c flag l h e t = tagged≡ _ _ (λ k. refl)
+    (λ i j. taken-channel a b c flag l h false e t i j
+    ∙ on-still (eqb i a && eqb j b) tail (messages (h .now .edition) (h .now .channel i j)))
 
 park-pop : (a b set : ℕ) (l : List Item) (h : History) → h .now .channel a b ≡ request set ∷ l → parkOf (popH a b h) ≡ parkOf h
 park-pop a b set l h e = tagged≡ _ _ (λ k. refl)
-    (λ i j. messages-drop (eqb i a && eqb j b) (h .now .channel i j) set l (λ t. at-channel a b i j h _ t e))
+    (λ i j. messages-drop (h .now .edition) (eqb i a && eqb j b) (h .now .channel i j) set l (λ t. at-channel a b i j h _ t e))
 
 park-turn : (b set : ℕ) (h : History) → parkOf (turnH b set h) ≡ parkOf h
 park-turn b set h = tagged≡ _ _
     (λ k. on-same (λ (z : Local). z .stock) (eqb k b) requested (h .now .zone k) refl)
-    (λ i j. on-same messages (eqb i b && has (targets b set (h .now .zone b)) j) (join (request (carried set (h .now .zone b))))
+    (λ i j. on-same (messages (h .now .edition)) (eqb i b && has (targets b set (h .now .zone b)) j) (join (request (carried set (h .now .zone b))))
     (h .now .channel i j)
-    (messages-request (h .now .channel i j) _))
+    (messages-request (h .now .edition) (h .now .channel i j) _))
 
 -- A step without an event keeps the cut.
 silent : (v : Opening) (h t : History) → t .log ≡ h .log → parkOf t ≡ parkOf h
@@ -264,9 +295,9 @@ stock-received None now false c e = absurd (true≢false e)
 stock-received (Mutable s) now flag c e = refl
 stock-received (Permanent s) now flag c e = refl
 
-own-cuts : (v : Opening) (x : Act) (h : History) → x .needs ≤ h .now .zone (x .zone) .stock → PreOnly h → Cuts v h
+own-cuts : (v : Opening) (x : Act) (h : History) → x .needs ≤ h .now .zone (x .zone) .stock → Carries x h → PreOnly h → Cuts v h
     → Cuts v (ownH x h)
-own-cuts v x h le pre cuts F closed = one-cut v F h (ownH x h) (actingOf x (h .now)) (acted x) (le, park-own x h) refl (λ k. refl)
+own-cuts v x h le tr pre cuts F closed = one-cut v F h (ownH x h) (actingOf x (h .now)) (acted x) (le, park-own x h tr) refl (λ k. refl)
     (stock-before (z .checkpoint) (x .change) (z .stock)) (stock-after (z .checkpoint) (x .change) (z .stock))
     (λ q. all-map _ _ (h .log) (apart-own F h x m (and-left (F (x .zone)) (not m) q) (not-true m (and-right (F (x .zone)) (not m) q))) pre)
     (cuts F (λ j i f q. closed j i f (ap (λ (d : ℕ). has d i) (own-deps x h j) ∙ q)))
@@ -278,8 +309,8 @@ own-cuts v x h le pre cuts F closed = one-cut v F h (ownH x h) (actingOf x (h .n
     m = hasCheckpoint (z .checkpoint)
 
 receive-cuts : (v : Opening) (a b c : ℕ) (flag : Bool) (l : List Item) (h : History) → h .now .channel a b ≡ message c flag ∷ l
-    → PreOnly h → Cuts v h → Cuts v (receiveH a b c flag h)
-receive-cuts v a b c flag l h at pre cuts F closed = one-cut v F h t e (received a c flag) step refl (λ k. refl)
+    → isTraffic (h .now .edition) c ≡ true → PreOnly h → Cuts v h → Cuts v (receiveH a b c flag h)
+receive-cuts v a b c flag l h at tr pre cuts F closed = one-cut v F h t e (received a c flag) step refl (λ k. refl)
     (stock-receive (z .checkpoint) (saved z) flag c) (stock-received (z .checkpoint) (saved z) flag c) apart
     (cuts F (λ j i f q. closed j i f (on-keeps (λ (w : Local). has (w .deps) i ≡ true) (eqb j b) (received a c flag) (h .now .zone j)
     (λ w. has-depsAfter (h .now .zone j .checkpoint) (h .now .zone j .deps) a flag i ∙ or-left _ _ w) q)))
@@ -299,10 +330,10 @@ receive-cuts v a b c flag l h at pre cuts F closed = one-cut v F h t e (received
     step : Step e (parkOf h) (parkOf t)
     step = (
       tagged c flag,
-      messages l,
-      ap messages at,
+      messages (h .now .edition) l,
+      ap (messages (h .now .edition)) at ∙ ap (λ (p : Bool). cons-if p (tagged c flag) (messages (h .now .edition) l)) tr,
       or-off-right (hasCheckpoint (z .checkpoint)) flag,
-      park-receive a b c flag l h at,
+      park-receive a b c flag l h at tr,
       refl,
     )
 
@@ -322,8 +353,19 @@ receive-cuts v a b c flag l h at pre cuts F closed = one-cut v F h t e (received
 
 pub cuts-kept : (v : Opening) → Kept (λ h. PreOnly h × Cuts v h)
 cuts-kept v = record {
-  at-own = λ x h le q. (pre-kept .at-own x h le (q .0), own-cuts v x h le (q .0) (q .1));
-  at-receive = λ a b c flag l h e q. (pre-kept .at-receive a b c flag l h e (q .0), receive-cuts v a b c flag l h e (q .0) (q .1));
+  at-own = λ x h le tr q. (pre-kept .at-own x h le tr (q .0), own-cuts v x h le tr (q .0) (q .1));
+  at-receive = λ a b c flag l h e tr q. (
+    pre-kept .at-receive a b c flag l h e tr (q .0),
+    receive-cuts v a b c flag l h e tr (q .0) (q .1),
+  );
+  at-check = λ a b c h tr q. (
+    pre-kept .at-check a b c h tr (q .0),
+    silent v h (checkH a b c h) refl (park-check a b c h tr) (λ j. refl) (λ z p. refl) (q .1),
+  );
+  at-checked = λ a b c flag l h e tr q. (
+    pre-kept .at-checked a b c flag l h e tr (q .0),
+    silent v h (popH a b h) refl (park-checked a b c flag l h e tr) (λ j. refl) (λ z p. refl) (q .1),
+  );
   at-drop = λ a b set l h e p q. (
     pre-kept .at-drop a b set l h e p (q .0),
     silent v h (popH a b h) refl (park-pop a b set l h e) (λ j. refl) (λ z p. refl) (q .1),

@@ -44,11 +44,13 @@ later h t f p = all-map _ _ (h .log) (λ e g u. g (f (zoneOf e) u)) p
 
 pub pre-kept : Kept PreOnly
 pre-kept = record {
-  at-own = λ x h _ p. all-join _ (h .log) _ (later h (ownH x h) (no-checkpoint-own x h) p) (no-checkpoint-own x h (x .zone));
-  at-receive = λ a b c flag l h _ p. all-join _ (h .log) _ (later h (receiveH a b c flag h) (no-checkpoint-receive a b c flag h) p)
+  at-own = λ x h _ _ p. all-join _ (h .log) _ (later h (ownH x h) (no-checkpoint-own x h) p) (no-checkpoint-own x h (x .zone));
+  at-receive = λ a b c flag l h _ _ p. all-join _ (h .log) _ (later h (receiveH a b c flag h) (no-checkpoint-receive a b c flag h) p)
       (λ e. sym (has-checkpoint-after (h .now .zone b .checkpoint) _ flag)
       ∙ sym (ap (λ (z : Local). hasCheckpoint (z .checkpoint)) (on-true (eqb b b) (received a c flag) (h .now .zone b) (eqb-refl b)))
       ∙ e);
+  at-check = λ a b c h _ p. p;
+  at-checked = λ a b c flag l h _ _ p. p;
   at-drop = λ a b set l h _ _ p. p;
   at-request = λ a b set l h _ _ p. later h (turnH b set (popH a b h)) (no-checkpoint-turn b set (popH a b h)) p;
   at-start = λ a h _ _ p. later h (turnH a nobody (beginH a h)) (no-checkpoint-turn a nobody (beginH a h)) p;
@@ -86,9 +88,11 @@ receive-senders a b c flag h s j i = rw (sender-join j i (h .log) _) (go (eqb j 
 
 pub senders-kept : Kept Senders
 senders-kept = record {
-  at-own = λ x h _ s j i. ap (λ (d : ℕ). has d i) (own-deps x h j) ∙ s j i
+  at-own = λ x h _ _ s j i. ap (λ (d : ℕ). has d i) (own-deps x h j) ∙ s j i
       ∙ ap (λ t. eqb i j || t) (sym (sender-join j i (h .log) _ ∙ or-false _));
-  at-receive = λ a b c flag l h _ s. receive-senders a b c flag h s;
+  at-receive = λ a b c flag l h _ _ s. receive-senders a b c flag h s;
+  at-check = λ a b c h _ s. s;
+  at-checked = λ a b c flag l h _ _ s. s;
   at-drop = λ a b set l h _ _ s. s;
   at-request = λ a b set l h _ _ s j i. on-same (λ (z : Local). has (z .deps) i) (eqb j b) requested (h .now .zone j) refl ∙ s j i;
   at-start = λ a h _ _ s j i. on-same (λ (z : Local). has (z .deps) i) (eqb j a) requested (h .now .zone j) refl ∙ s j i;

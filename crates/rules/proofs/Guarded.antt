@@ -10,6 +10,11 @@ module _ {A : Type 0} where
   pub on-false : (p : Bool) (g : A → A) (v : A) → p ≡ false → on p g v ≡ v
   on-false p g v e = rw e
 
+  -- A change that is nowhere made.
+  pub on-still : (p : Bool) (g : A → A) (v : A) → on p (on false g) v ≡ v
+  on-still true g v = refl
+  on-still false g v = refl
+
   -- What the change keeps, the guarded change keeps.
   pub on-keeps {κ} : (P : A → Type κ) (p : Bool) (g : A → A) (v : A) → (P v → P (g v)) → P v → P (on p g v)
   on-keeps P true g v f h = f h

@@ -2,20 +2,21 @@
 -- moves that the park is fed.
 use mathlib.Core.Path.{_≡_, refl, sym, _∙_, ap}
 use mathlib.Core.Bool.{Bool, true, false, _&&_, _||_}
-use mathlib.Core.List.{List, [], _∷_, _++_, append-assoc, append-nil, map}
+use mathlib.Core.List.{List, [], _∷_, _++_, append-assoc, append-nil, map, tail}
 use mathlib.Core.Option.{Option, none, some}
 use Prim.Native.Nat.{ℕ, _+_}
 use lib.Dec.{eqb}
+use Rattle.rules.specs.Edition.{isTraffic}
 use Rattle.rules.specs.Opening.{Opening}
-use Rattle.rules.specs.Change.{on, join}
+use Rattle.rules.specs.Change.{on, join, cons-if}
 use Rattle.rules.specs.Sets.{has}
-use Rattle.rules.specs.Zone.{hasCheckpoint, isPermanent}
-use Rattle.rules.specs.Site.{Item, message, request, Site, receiveS, popS, turnS, startS, Call, send, receive, start, stepS, openS}
+use Rattle.rules.specs.Zone.{hasCheckpoint, isPermanent, sent, received}
+use Rattle.rules.specs.Site.{Item, message, request, Site, popS, turnS, startS, Call, send, receive, start, stepS, openS}
 use Rattle.rules.specs.Park.{Move}
 use Rattle.rules.specs.Cut.{Allowed, run, taking, moveOf, moves}
 use Rattle.rules.specs.declared.Local.{Local}
 use Rattle.rules.proofs.Tests.{both-true}
-use Rattle.rules.proofs.Guarded.{on-same}
+use Rattle.rules.proofs.Guarded.{on-same, on-still}
 use Rattle.rules.proofs.Lists.{map-join}
 use Rattle.rules.proofs.Acts.{Act, handing}
 use Rattle.rules.proofs.Tagged.{Event, acting, receiving}
@@ -54,6 +55,7 @@ acted x z = record { stock = x .change (z .stock); deps = z .deps; events = z .e
 
 abbrev pub ownS : Act → Site → Site
 ownS x s = record {
+  edition = s .edition;
   zone = λ k. on (eqb k (x .zone)) (acted x) (s .zone k);
   channel = λ i j. on (x .goes i j) (join (message (x .cars) (hasCheckpoint (s .zone (x .zone) .checkpoint))))
       (s .channel i j);
@@ -62,12 +64,31 @@ ownS x s = record {
 abbrev pub ownH : Act → History → History
 ownH x h = record { now = ownS x (h .now); initiator = h .initiator; log = join (actingOf x (h .now)) (h .log) }
 
+-- A message that is traffic is received.
+abbrev pub receivedS : ℕ → ℕ → ℕ → Bool → Site → Site
+receivedS a b c flag s = record {
+  edition = s .edition;
+  zone = λ k. on (eqb k b) (received a c flag) (s .zone k);
+  channel = λ i j. on (eqb i a && eqb j b) tail (s .channel i j);
+}
+
 abbrev pub receiveH : ℕ → ℕ → ℕ → Bool → History → History
 receiveH a b c flag h = record {
-  now = receiveS a b c flag (h .now);
+  now = receivedS a b c flag (h .now);
   initiator = h .initiator;
   log = join (receivingOf a b c flag (h .now)) (h .log);
 }
+
+-- A line check joins its channel, with the flag if its sender has a checkpoint; nothing else happens. Taking one off is a pop.
+abbrev pub checkS : ℕ → ℕ → ℕ → Site → Site
+checkS a b c s = record {
+  edition = s .edition;
+  zone = s .zone;
+  channel = λ i j. on (eqb i a && eqb j b) (join (message c (hasCheckpoint (s .zone a .checkpoint)))) (s .channel i j);
+}
+
+abbrev pub checkH : ℕ → ℕ → ℕ → History → History
+checkH a b c h = record { now = checkS a b c (h .now); initiator = h .initiator; log = h .log }
 
 abbrev pub popH : ℕ → ℕ → History → History
 popH a b h = record { now = popS a b (h .now); initiator = h .initiator; log = h .log }
@@ -89,11 +110,11 @@ initiatorAfter (start a) o = some a
 
 abbrev pub logTaken : ℕ → ℕ → List Item → Site → List Event → List Event
 logTaken a b [] s log = log
-logTaken a b (message c flag ∷ l) s log = join (receivingOf a b c flag s) log
+logTaken a b (message c flag ∷ l) s log = on (isTraffic (s .edition) c) (join (receivingOf a b c flag s)) log
 logTaken a b (request set ∷ l) s log = log
 
 abbrev pub logAfter : Call → Site → List Event → List Event
-logAfter (send a b c) s log = join (actingOf (handing a b c) s) log
+logAfter (send a b c) s log = on (isTraffic (s .edition) c) (join (actingOf (handing a b c) s)) log
 logAfter (receive a b) s log = logTaken a b (s .channel a b) s log
 logAfter (start a) s log = log
 
@@ -114,9 +135,57 @@ own-checkpoint x h k = on-same (λ (z : Local). z .checkpoint) (eqb k (x .zone))
 pub own-deps : (x : Act) (h : History) (k : ℕ) → (ownH x h) .now .zone k .deps ≡ h .now .zone k .deps
 own-deps x h k = on-same (λ (z : Local). z .deps) (eqb k (x .zone)) (acted x) (h .now .zone k) refl
 
--- A hand-over is an act.
-pub own-send : (a b c : ℕ) (h : History) → stepH (send a b c) h ≡ ownH (handing a b c) h
-own-send a b c h = refl
+-- A hand-over and a receipt of one, p: whether it is traffic. One that is traffic is an act, or such a receipt; one that is not is a check,
+-- or takes one off.
+abbrev pub sendH : Bool → ℕ → ℕ → ℕ → History → History
+sendH p a b c h = record {
+  now = record {
+    edition = h .now .edition;
+    zone = λ k. on (eqb k a) (on p (sent c)) (h .now .zone k);
+    channel = (checkS a b c (h .now)) .channel;
+  };
+  initiator = h .initiator;
+  log = on p (join (actingOf (handing a b c) (h .now))) (h .log);
+}
+
+abbrev pub takeH : Bool → ℕ → ℕ → ℕ → Bool → History → History
+takeH p a b c flag h = record {
+  now = record {
+    edition = h .now .edition;
+    zone = λ k. on (eqb k b) (on p (received a c flag)) (h .now .zone k);
+    channel = (popS a b (h .now)) .channel;
+  };
+  initiator = h .initiator;
+  log = on p (join (receivingOf a b c flag (h .now))) (h .log);
+}
+
+pub send-own : (a b c : ℕ) (h : History) → sendH true a b c h ≡ ownH (handing a b c) h
+send-own a b c h = refl
+
+pub send-check : (a b c : ℕ) (h : History) → sendH false a b c h ≡ checkH a b c h
+send-check a b c h = λ x. record {
+  now = record {
+    edition = h .now .edition;
+    zone = λ k. on-still (eqb k a) (sent c) (h .now .zone k) x;
+    channel = (checkS a b c (h .now)) .channel;
+  };
+  initiator = h .initiator;
+  log = h .log;
+}
+
+pub take-receive : (a b c : ℕ) (flag : Bool) (h : History) → takeH true a b c flag h ≡ receiveH a b c flag h
+take-receive a b c flag h = refl
+
+pub take-check : (a b c : ℕ) (flag : Bool) (h : History) → takeH false a b c flag h ≡ popH a b h
+take-check a b c flag h = λ x. record {
+  now = record {
+    edition = h .now .edition;
+    zone = λ k. on-still (eqb k b) (received a c flag) (h .now .zone k) x;
+    channel = (popS a b (h .now)) .channel;
+  };
+  initiator = h .initiator;
+  log = h .log;
+}
 
 -- The channel from i to k, where it is that from a to b.
 pub at-channel : (a b i k : ℕ) (h : History) (l : List Item) → eqb i a && eqb k b ≡ true → h .now .channel a b ≡ l
@@ -129,13 +198,17 @@ now-run [] h = refl
 now-run (c ∷ cs) h = now-run cs (stepH c h)
 
 -- Its events without their tags are the moves of the calls.
+moves-if : (p : Bool) (log : List Event) (e : Event) → map untag (on p (join e) log) ≡ map untag log ++ cons-if p (untag e) []
+moves-if true log e = map-join untag log e
+moves-if false log e = sym (append-nil (map untag log))
+
 moves-after : (c : Call) (s : Site) (log : List Event) → map untag (logAfter c s log) ≡ map untag log ++ moveOf c s
-moves-after (send a b c) s log = map-join untag log _
+moves-after (send a b c) s log = moves-if (isTraffic (s .edition) c) log _
 moves-after (receive a b) s log = go (s .channel a b)
   where
-    go : (l : List Item) → map untag (logTaken a b l s log) ≡ map untag log ++ taking a b l
+    go : (l : List Item) → map untag (logTaken a b l s log) ≡ map untag log ++ taking (s .edition) a b l
     go [] = sym (append-nil (map untag log))
-    go (message c flag ∷ l) = map-join untag log _
+    go (message c flag ∷ l) = moves-if (isTraffic (s .edition) c) log _
     go (request set ∷ l) = sym (append-nil (map untag log))
 moves-after (start a) s log = sym (append-nil (map untag log))
 

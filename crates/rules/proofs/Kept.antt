@@ -7,6 +7,7 @@ use mathlib.Core.Option.{Option, none, some}
 use Prim.Native.Nat.{ℕ, _≤_}
 use lib.Dec.{eqb}
 use borrow.Author.Tests.{eqb-true}
+use Rattle.rules.specs.Edition.{isTraffic}
 use Rattle.rules.specs.Opening.{Opening}
 use Rattle.rules.specs.Change.{on, join}
 use Rattle.rules.specs.Sets.{nobody}
@@ -19,13 +20,20 @@ use Rattle.rules.proofs.Guarded.{on-keeps, on-true}
 use Rattle.rules.proofs.Lists.{All, all-join, all-tail}
 use Rattle.rules.proofs.Checkpoints.{has-checkpoint-after, permanent-after, permanent-made, started-requested}
 use Rattle.rules.proofs.Acts.{Act, handing}
-use Rattle.rules.proofs.History.{History, openH, NoCheckpoint, IsPermanent, ownH, own-checkpoint, own-send, receiveH, popH, turnH, beginH, startH, logTaken, stepH, history}
+use Rattle.rules.proofs.History.{History, openH, NoCheckpoint, IsPermanent, ownH, own-checkpoint, receiveH, checkH, sendH, takeH, send-own, send-check, take-receive, take-check, popH, turnH, beginH, startH, logTaken, stepH, history}
+
+-- A message that an act puts on a channel is traffic.
+abbrev pub Carries : Act → History → Type 0
+Carries x h = (i j : ℕ) → x .goes i j ≡ true → isTraffic (h .now .edition) (x .cars) ≡ true
 
 -- R leads from each history to the next, whatever the step.
 pub record Does {κ} (R : History → History → Type κ) : Type κ where
-  pub at-own : (x : Act) (h : History) → x .needs ≤ h .now .zone (x .zone) .stock → R h (ownH x h)
+  pub at-own : (x : Act) (h : History) → x .needs ≤ h .now .zone (x .zone) .stock → Carries x h → R h (ownH x h)
   pub at-receive : (a b c : ℕ) (flag : Bool) (l : List Item) (h : History) → h .now .channel a b ≡ message c flag ∷ l
-      → R h (receiveH a b c flag h)
+      → isTraffic (h .now .edition) c ≡ true → R h (receiveH a b c flag h)
+  pub at-check : (a b c : ℕ) (h : History) → isTraffic (h .now .edition) c ≡ false → R h (checkH a b c h)
+  pub at-checked : (a b c : ℕ) (flag : Bool) (l : List Item) (h : History) → h .now .channel a b ≡ message c flag ∷ l
+      → isTraffic (h .now .edition) c ≡ false → R h (popH a b h)
   pub at-drop : (a b set : ℕ) (l : List Item) (h : History) → h .now .channel a b ≡ request set ∷ l
       → isPermanent (h .now .zone b .checkpoint) ≡ true → R h (popH a b h)
   pub at-request : (a b set : ℕ) (l : List Item) (h : History) → h .now .channel a b ≡ request set ∷ l
@@ -51,13 +59,13 @@ some≢none e = let z : _≡_ {A = Bool} true false = cc in true≢false z
 
 fresh-kept : Kept Fresh
 fresh-kept = record {
-  at-own = λ x h _ f. record {
+  at-own = λ x h _ _ f. record {
     no-checkpoint = λ e z. ap hasCheckpoint (own-checkpoint x h z) ∙ f .no-checkpoint e z;
     calm = λ e i j. on-keeps (All Calm) (x .goes i j) (join _) (h .now .channel i j)
         (λ w. all-join Calm (h .now .channel i j) _ w (f .no-checkpoint e (x .zone))) (f .calm e i j);
     begun = λ a e. ap isPermanent (own-checkpoint x h a) ∙ f .begun a e;
   };
-  at-receive = λ a b c flag l h at f. record {
+  at-receive = λ a b c flag l h at _ f. record {
     no-checkpoint = λ e z. on-keeps (λ (k : Local). hasCheckpoint (k .checkpoint) ≡ false) (eqb z b) (received a c flag) (h .now .zone z)
         (λ q. has-checkpoint-after (h .now .zone z .checkpoint) _ flag ∙ ap (λ (t : Bool). t || flag) q
         ∙ first a b c flag l h at (f .calm e)) (f .no-checkpoint e z);
@@ -65,6 +73,18 @@ fresh-kept = record {
         (f .calm e i j);
     begun = λ x e. on-keeps (λ (k : Local). isPermanent (k .checkpoint) ≡ true) (eqb x b) (received a c flag) (h .now .zone x)
         (λ q. permanent-after (h .now .zone x .checkpoint) _ flag ∙ q) (f .begun x e);
+  };
+  at-check = λ a b c h _ f. record {
+    no-checkpoint = f .no-checkpoint;
+    calm = λ e i j. on-keeps (All Calm) (eqb i a && eqb j b) (join _) (h .now .channel i j)
+        (λ w. all-join Calm (h .now .channel i j) _ w (f .no-checkpoint e a)) (f .calm e i j);
+    begun = f .begun;
+  };
+  at-checked = λ a b c flag l h at _ f. record {
+    no-checkpoint = f .no-checkpoint;
+    calm = λ e i j. on-keeps (All Calm) (eqb i a && eqb j b) tail (h .now .channel i j) (all-tail Calm (h .now .channel i j))
+        (f .calm e i j);
+    begun = f .begun;
   };
   at-drop = λ a b set l h at _ f. record {
     no-checkpoint = f .no-checkpoint;
@@ -111,7 +131,7 @@ first-start a h f may = go (h .initiator) refl
 
 start-turn : (a : ℕ) (h : History) → NoCheckpoint h a → startH a h ≡ turnH a nobody (beginH a h)
 start-turn a h e = λ i. record {
-  now = record { zone = λ k. zones k i; channel = (startS a (h .now)) .channel };
+  now = record { edition = h .now .edition; zone = λ k. zones k i; channel = (startS a (h .now)) .channel };
   initiator = some a;
   log = h .log;
 }
@@ -126,7 +146,11 @@ start-turn a h e = λ i. record {
 module _ {κ} (R : History → History → Type κ) (does : Does R) where
   -- One allowed call.
   pub call-does : (c : Call) (h : History) → Fresh h → May c (h .now) → R h (stepH c h)
-  call-does (send a b c) h f may = subst (R h) (sym (own-send a b c h)) (does .at-own (handing a b c) h may)
+  call-does (send a b c) h f may = go (isTraffic (h .now .edition) c) refl
+    where
+      go : (p : Bool) → isTraffic (h .now .edition) c ≡ p → R h (sendH p a b c h)
+      go true e = subst (R h) (sym (send-own a b c h)) (does .at-own (handing a b c) h may (λ i j _. e))
+      go false e = subst (R h) (sym (send-check a b c h)) (does .at-check a b c h e)
   call-does (receive a b) h f may = go (h .now .channel a b) refl
     where
       turn : (set : ℕ) (l : List Item) (p : Bool) → h .now .channel a b ≡ request set ∷ l
@@ -135,10 +159,15 @@ module _ {κ} (R : History → History → Type κ) (does : Does R) where
       turn set l true at e = does .at-drop a b set l h at e
       turn set l false at e = does .at-request a b set l h at e
 
+      got : (c : ℕ) (flag : Bool) (l : List Item) (p : Bool) → h .now .channel a b ≡ message c flag ∷ l
+          → isTraffic (h .now .edition) c ≡ p → R h (takeH p a b c flag h)
+      got c flag l true at e = subst (R h) (sym (take-receive a b c flag h)) (does .at-receive a b c flag l h at e)
+      got c flag l false at e = subst (R h) (sym (take-check a b c flag h)) (does .at-checked a b c flag l h at e)
+
       go : (l : List Item) → h .now .channel a b ≡ l
           → R h (record { now = takeS a b l (h .now); initiator = h .initiator; log = logTaken a b l (h .now) (h .log) })
       go [] at = absurd (may at)
-      go (message c flag ∷ l) at = does .at-receive a b c flag l h at
+      go (message c flag ∷ l) at = got c flag l (isTraffic (h .now .edition) c) at refl
       go (request set ∷ l) at = turn set l (isPermanent (h .now .zone b .checkpoint)) at refl
   call-does (start a) h f may =
       let e = first-start a h f may in

@@ -1,6 +1,7 @@
 pub mod SetLaws
 pub mod Tests
 pub mod Guarded
+pub mod Editions
 pub mod Lists
 pub mod Acts
 pub mod Tagged

@@ -2,7 +2,7 @@
 use mathlib.Core.Path.{_≡_, refl, ap}
 use mathlib.Core.Bool.{Bool, true, false}
 use mathlib.Core.List.{List, [], _∷_, _++_, map, tail}
-use Rattle.rules.specs.Change.{join, cons-if}
+use Rattle.rules.specs.Change.{on, join, cons-if}
 
 module _ {A : Type 0} where
   -- Every element has P.
@@ -21,6 +21,15 @@ module _ {A : Type 0} where
   pub all-map : (P Q : A → Type 0) (xs : List A) → ((x : A) → P x → Q x) → All P xs → All Q xs
   all-map P Q [] f h = tt
   all-map P Q (x ∷ xs) f h = (f x (h .0), all-map P Q xs f (h .1))
+
+  -- x before or behind nothing; what is left behind x, where it stands.
+  pub join-if : (p : Bool) (x : A) → on p (join x) [] ≡ cons-if p x []
+  join-if true x = refl
+  join-if false x = refl
+
+  pub tail-if : (p : Bool) (x : A) (xs : List A) → on p tail (cons-if p x xs) ≡ xs
+  tail-if true x xs = refl
+  tail-if false x xs = refl
 
   -- The elements that pass the test, in order.
   abbrev pub keep : (A → Bool) → List A → List A
@@ -55,6 +64,6 @@ module _ {A B : Type 0} where
   map-tail f [] = refl
   map-tail f (x ∷ xs) = refl
 
-  pub map-cons-if : (f : A → B) (p : Bool) (x : A) → map f (cons-if p x []) ≡ cons-if p (f x) []
-  map-cons-if f true x = refl
-  map-cons-if f false x = refl
+  pub map-if : (f : A → B) (p : Bool) (x : A) (xs : List A) → map f (cons-if p x xs) ≡ cons-if p (f x) (map f xs)
+  map-if f true x xs = refl
+  map-if f false x xs = refl

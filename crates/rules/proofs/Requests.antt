@@ -12,7 +12,7 @@ use Rattle.rules.specs.Opening.{Opening}
 use Rattle.rules.specs.Change.{on, join}
 use Rattle.rules.specs.Sets.{has, nobody}
 use Rattle.rules.specs.Zone.{hasCheckpoint, isPermanent, depsAfter, received, requested, targets, carried}
-use Rattle.rules.specs.Site.{Item, message, request, waits}
+use Rattle.rules.specs.Site.{Item, message, request, popS, waits}
 use Rattle.rules.specs.declared.Local.{Local}
 use Rattle.rules.specs.declared.Checkpoint.{Checkpoint}
 use Rattle.rules.specs.declared.Checkpoint.the-variants.{None, Mutable, Permanent}
@@ -21,9 +21,17 @@ use Rattle.rules.proofs.Tests.{Same, same?, and-left, and-right, or-cas
 use Rattle.rules.proofs.Guarded.{on-keeps, on-same, on-true, on-false}
 use Rattle.rules.proofs.Lists.{All, all-join, all-tail, all-map}
 use Rattle.rules.proofs.Checkpoints.{permanent-after, permanent-made, has-depsAfter, has-targets, has-carried}
-use Rattle.rules.proofs.Acts.{Act}
-use Rattle.rules.proofs.History.{History, openH, IsPermanent, Depends, ownH, own-checkpoint, own-deps, receiveH, popH, turnH, beginH, at-channel}
+use Rattle.rules.proofs.Tagged.{Event}
+use Rattle.rules.proofs.History.{History, openH, IsPermanent, Depends, ownH, own-checkpoint, own-deps, receiveH, checkH, popH, turnH, beginH, at-channel}
 use Rattle.rules.proofs.Kept.{Kept, some≢none}
+
+-- The first item of a channel has left it; zones and log may have changed.
+abbrev tookH : ℕ → ℕ → (ℕ → Local) → List Event → History → History
+tookH a b zone log h = record {
+  now = record { edition = h .now .edition; zone = zone; channel = (popS a b (h .now)) .channel };
+  initiator = h .initiator;
+  log = log;
+}
 
 -- Permanent, or a request is coming.
 abbrev pub Due : History → ℕ → Type 0
@@ -220,23 +228,28 @@ still-flow h t g back depended st wait fair flow = record {
     due k (inl e) = inl (g .permanents k e)
     due k (inr (i, w)) = inr (i, wait k i w)
 
-own-flow : (x : Act) (h : History) → Flow (Due h) h → Flow (Due (ownH x h)) (ownH x h)
-own-flow x h = still-flow h (ownH x h)
+-- A message is put on channels, and every zone keeps its checkpoint and its dependency set: an act, or a check.
+put-flow : (h t : History) (goes : ℕ → ℕ → Bool) (c : ℕ) (flag : Bool)
+    → ((k : ℕ) → t .now .zone k .checkpoint ≡ h .now .zone k .checkpoint) → ((k : ℕ) → t .now .zone k .deps ≡ h .now .zone k .deps)
+    → t .initiator ≡ h .initiator
+    → ((i j : ℕ) → t .now .channel i j ≡ on (goes i j) (join (message c flag)) (h .now .channel i j))
+    → Flow (Due h) h → Flow (Due t) t
+put-flow h t goes c flag checkpoints deps st put = still-flow h t
     (record { permanents = λ k e. same k ∙ e; dependencies = λ k i e. depends k i ∙ e })
-    (λ k e. sym (same k) ∙ e) (λ k i _ e. sym (depends k i) ∙ e) refl
-    (λ k i w. on-keeps (λ (l : List Item). waits l ≡ true) (x .goes i k) (join y) (h .now .channel i k)
-    (waits-join (h .now .channel i k) y) w)
-    (λ i j q. on-keeps (All _) (x .goes i j) (join y) (h .now .channel i j)
-    (λ q′. all-join _ (h .now .channel i j) y q′ tt) q)
+    (λ k e. sym (same k) ∙ e) (λ k i _ e. sym (depends k i) ∙ e) st
+    (λ k i w. rw (put i k) (on-keeps (λ (l : List Item). waits l ≡ true) (goes i k) (join y) (h .now .channel i k)
+    (waits-join (h .now .channel i k) y) w))
+    (λ i j q. rw (put i j) (on-keeps (All _) (goes i j) (join y) (h .now .channel i j)
+    (λ q′. all-join _ (h .now .channel i j) y q′ tt) q))
   where
     y : Item
-    y = message (x .cars) (hasCheckpoint (h .now .zone (x .zone) .checkpoint))
+    y = message c flag
 
-    same : (k : ℕ) → isPermanent ((ownH x h) .now .zone k .checkpoint) ≡ isPermanent (h .now .zone k .checkpoint)
-    same k = ap isPermanent (own-checkpoint x h k)
+    same : (k : ℕ) → isPermanent (t .now .zone k .checkpoint) ≡ isPermanent (h .now .zone k .checkpoint)
+    same k = ap isPermanent (checkpoints k)
 
-    depends : (k i : ℕ) → has ((ownH x h) .now .zone k .deps) i ≡ has (h .now .zone k .deps) i
-    depends k i = ap (λ (d : ℕ). has d i) (own-deps x h k)
+    depends : (k i : ℕ) → has (t .now .zone k .deps) i ≡ has (h .now .zone k .deps) i
+    depends k i = ap (λ (d : ℕ). has d i) (deps k)
 
 -- A permanent zone's dependency set stays.
 permanent-deps : (k : Checkpoint) (deps from : ℕ) (flag : Bool) → isPermanent k ≡ true → depsAfter k deps from flag ≡ deps
@@ -244,19 +257,31 @@ permanent-deps None deps from flag e = absurd (false≢true e)
 permanent-deps (Mutable s) deps from flag e = refl
 permanent-deps (Permanent s) deps from flag e = refl
 
-receive-flow : (a b c : ℕ) (flag : Bool) (l : List Item) (h : History) → h .now .channel a b ≡ message c flag ∷ l
-    → Flow (Due h) h → Flow (Due (receiveH a b c flag h)) (receiveH a b c flag h)
-receive-flow a b c flag l h e = still-flow h t
-    (record {
-      permanents = λ k q. same k ∙ q;
-      dependencies = λ k i q. on-keeps (λ (z : Local). has (z .deps) i ≡ true) (eqb k b) (received a c flag) (h .now .zone k)
-          (λ w. has-depsAfter (h .now .zone k .checkpoint) (h .now .zone k .deps) a flag i ∙ or-left _ _ w) q;
-    })
+-- The message that stands first on the channel from a to b leaves it.
+took-flow : (a b c : ℕ) (flag : Bool) (l : List Item) (h : History) (zone : ℕ → Local) (log : List Event)
+    → h .now .channel a b ≡ message c flag ∷ l
+    → ((k : ℕ) → isPermanent (zone k .checkpoint) ≡ isPermanent (h .now .zone k .checkpoint))
+    → ((k : ℕ) → IsPermanent h k → zone k .deps ≡ h .now .zone k .deps)
+    → ((k i : ℕ) → Depends h k i → has (zone k .deps) i ≡ true)
+    → Flow (Due h) h → Flow (Due (tookH a b zone log h)) (tookH a b zone log h)
+took-flow a b c flag l h zone log e same deps more = still-flow h (tookH a b zone log h)
+    (record { permanents = λ k q. same k ∙ q; dependencies = more })
     (λ k q. sym (same k) ∙ q)
     (λ k i p q. sym (ap (λ (d : ℕ). has d i) (deps k (sym (same k) ∙ p))) ∙ q)
     refl
     (λ k i w. wait k i (eqb i a && eqb k b) refl w)
     (λ i j q. on-keeps (All _) (eqb i a && eqb j b) tail (h .now .channel i j) (all-tail _ (h .now .channel i j)) q)
+  where
+    wait : (k i : ℕ) (p : Bool) → eqb i a && eqb k b ≡ p → waits (h .now .channel i k) ≡ true
+        → waits (on p tail (h .now .channel i k)) ≡ true
+    wait k i true q w = waits-tail (h .now .channel i k) c flag l (at-channel a b i k h _ q e) w
+    wait k i false q w = w
+
+receive-flow : (a b c : ℕ) (flag : Bool) (l : List Item) (h : History) → h .now .channel a b ≡ message c flag ∷ l
+    → Flow (Due h) h → Flow (Due (receiveH a b c flag h)) (receiveH a b c flag h)
+receive-flow a b c flag l h e = took-flow a b c flag l h (t .now .zone) (t .log) e same deps
+    (λ k i q. on-keeps (λ (z : Local). has (z .deps) i ≡ true) (eqb k b) (received a c flag) (h .now .zone k)
+    (λ w. has-depsAfter (h .now .zone k .checkpoint) (h .now .zone k .deps) a flag i ∙ or-left _ _ w) q)
   where
     t : History
     t = receiveH a b c flag h
@@ -269,15 +294,12 @@ receive-flow a b c flag l h e = still-flow h t
     deps k p = on-same (λ (z : Local). z .deps) (eqb k b) (received a c flag) (h .now .zone k)
         (permanent-deps (h .now .zone k .checkpoint) _ a flag p)
 
-    wait : (k i : ℕ) (p : Bool) → eqb i a && eqb k b ≡ p → waits (h .now .channel i k) ≡ true
-        → waits (on p tail (h .now .channel i k)) ≡ true
-    wait k i true q w = waits-tail (h .now .channel i k) c flag l (at-channel a b i k h _ q e) w
-    wait k i false q w = w
-
 pub flow-kept : Kept (λ h. Flow (Due h) h)
 flow-kept = record {
-  at-own = λ x h _ flow. own-flow x h flow;
-  at-receive = λ a b c flag l h e flow. receive-flow a b c flag l h e flow;
+  at-own = λ x h _ _. put-flow h (ownH x h) (x .goes) (x .cars) _ (own-checkpoint x h) (own-deps x h) refl (λ i j. refl);
+  at-receive = λ a b c flag l h e _ flow. receive-flow a b c flag l h e flow;
+  at-check = λ a b c h _. put-flow h (checkH a b c h) (λ i j. eqb i a && eqb j b) c _ (λ k. refl) (λ k. refl) refl (λ i j. refl);
+  at-checked = λ a b c flag l h e _. took-flow a b c flag l h (h .now .zone) (h .log) e (λ k. refl) (λ k _. refl) (λ k i q. q);
   at-drop = λ a b set l h e p flow. flow-map _ (Due (popH a b h)) (popH a b h) (λ k. permanent-due a b h p k) (pop-flow a b h flow);
   at-request = λ a b set l h e p flow. let q = first a b set l h e (flow .fair a b) in
       turn-flow b set (popH a b h) (λ st. flow .quiet st a (q .0)) (λ k rk. pop-due a b h k (q .2 k rk))

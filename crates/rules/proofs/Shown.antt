@@ -57,10 +57,12 @@ turn-onward b set h z = next-on (eqb z b) requested (h .now .zone z)
 
 onward : Does Onward
 onward = record {
-  at-own = λ x h _ z. subst (Next (h .now .zone z .checkpoint) (h .now .zone z .events)) (sym (own-checkpoint x h z))
+  at-own = λ x h _ _ z. subst (Next (h .now .zone z .checkpoint) (h .now .zone z .events)) (sym (own-checkpoint x h z))
       (next-same (h .now .zone z .checkpoint) (h .now .zone z .events));
-  at-receive = λ a b c flag l h _ z. next-on (eqb z b) (received a c flag) (h .now .zone z)
+  at-receive = λ a b c flag l h _ _ z. next-on (eqb z b) (received a c flag) (h .now .zone z)
       (next-after (h .now .zone z .checkpoint) (saved (h .now .zone z)) flag);
+  at-check = λ a b c h _ z. next-same (h .now .zone z .checkpoint) (h .now .zone z .events);
+  at-checked = λ a b c flag l h _ _ z. next-same (h .now .zone z .checkpoint) (h .now .zone z .events);
   at-drop = λ a b set l h _ _ z. next-same (h .now .zone z .checkpoint) (h .now .zone z .events);
   at-request = λ a b set l h _ _. turn-onward b set (popH a b h);
   at-start = λ a h _ _. turn-onward a nobody (beginH a h);
@@ -138,8 +140,10 @@ checkpointed-once v cs z p =
 -- The initiator stays: a second start is not allowed.
 initiator-kept : (a : ℕ) → Kept (λ h. h .initiator ≡ some a)
 initiator-kept a = record {
-  at-own = λ x h _ q. q;
-  at-receive = λ _ b c flag l h _ q. q;
+  at-own = λ x h _ _ q. q;
+  at-receive = λ _ b c flag l h _ _ q. q;
+  at-check = λ _ b c h _ q. q;
+  at-checked = λ _ b c flag l h _ _ q. q;
   at-drop = λ _ b set l h _ _ q. q;
   at-request = λ _ b set l h _ _ q. q;
   at-start = λ x h e _ q. absurd (some≢none (sym q ∙ e));

@@ -5,6 +5,8 @@ use mathlib.Core.List.{List, [], _∷_, _++_}
 use mathlib.Core.Option.{some}
 use Prim.Native.Nat.{ℕ, _≤_, _<_}
 use lib.ListN.{drop}
+use Rattle.rules.specs.Change.{cons-if}
+use Rattle.rules.specs.Edition.{isTraffic}
 use Rattle.rules.specs.Opening.{Opening}
 use Rattle.rules.specs.Zone.{hasCheckpoint, isPermanent}
 use Rattle.rules.specs.Site.{Item, message, request, Site, Call, send, receive, start, stepS, openS, waits}
@@ -28,15 +30,16 @@ abbrev pub run : List Call → Site → Site
 run [] s = s
 run (c ∷ cs) s = run cs (stepS c s)
 
--- What the park is fed of a call: "the accepted hand-over calls and the accepted receipt calls that take a hand-over".
-abbrev pub taking : ℕ → ℕ → List Item → List Move
-taking a b [] = []
-taking a b (message cars flag ∷ l) = take a b ∷ []
-taking a b (request set ∷ l) = []
+-- What the park is fed of a call: "the accepted hand-over calls and the accepted receipt calls that take a hand-over", from edition 2 on
+-- "hand-overs with cars and receipts of these": in every edition those that are traffic in it.
+abbrev pub taking : ℕ → ℕ → ℕ → List Item → List Move
+taking edition a b [] = []
+taking edition a b (message cars flag ∷ l) = cons-if (isTraffic edition cars) (take a b) []
+taking edition a b (request set ∷ l) = []
 
 abbrev pub moveOf : Call → Site → List Move
-moveOf (send a b cars) s = hand a b cars ∷ []
-moveOf (receive a b) s = taking a b (s .channel a b)
+moveOf (send a b cars) s = cons-if (isTraffic (s .edition) cars) (hand a b cars) []
+moveOf (receive a b) s = taking (s .edition) a b (s .channel a b)
 moveOf (start a) s = []
 
 abbrev pub moves : List Call → Site → List Move
@@ -47,14 +50,14 @@ moves (c ∷ cs) s = moveOf c s ++ moves cs (stepS c s)
 abbrev pub Complete : Site → Type 0
 Complete s = ((z : ℕ) × (isPermanent (s .zone z .checkpoint) ≡ true)) × ((i j : ℕ) → waits (s .channel i j) ≡ false)
 
--- The stocks and lines of a site, "requests and marked bits left out".
-abbrev pub carsOn : List Item → List ℕ
-carsOn [] = []
-carsOn (message cars flag ∷ l) = cars ∷ carsOn l
-carsOn (request set ∷ l) = carsOn l
+-- The stocks and lines of a site, "requests and marked bits left out"; the lines are "read without checks".
+abbrev pub carsOn : ℕ → List Item → List ℕ
+carsOn edition [] = []
+carsOn edition (message cars flag ∷ l) = cons-if (isTraffic edition cars) cars (carsOn edition l)
+carsOn edition (request set ∷ l) = carsOn edition l
 
 abbrev pub present : Site → Park
-present s = record { stock = λ k. s .zone k .stock; channel = λ i j. carsOn (s .channel i j) }
+present s = record { stock = λ k. s .zone k .stock; channel = λ i j. carsOn (s .edition) (s .channel i j) }
 
 -- A recording: which zones are shown with a permanent checkpoint ("firm"), and the events, stocks and channels shown.
 pub record Snapshot : Type 0 where

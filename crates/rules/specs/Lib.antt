@@ -1,4 +1,5 @@
 pub mod Limits
+pub mod Edition
 pub mod Questions
 pub mod Sets
 pub mod Below

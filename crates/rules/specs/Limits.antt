@@ -19,7 +19,3 @@ places = 16
 -- "at most 1,000 records"; the zone part counts own events by the same number.
 abbrev pub mostRecords : ℕ
 mostRecords = 1000
-
--- "edition (3 bits, value 1)".
-abbrev pub edition : ℕ
-edition = 1

@@ -7,7 +7,7 @@ use lib.Dec.{eqb}
 use Rattle.rules.specs.Opening.{Opening}
 use Rattle.rules.specs.Change.{on, join}
 use Rattle.rules.specs.Sets.{has, nobody}
-use Rattle.rules.specs.Zone.{hasCheckpoint, isPermanent, opened, sent, received, started, requested, targets, carried}
+use Rattle.rules.specs.Zone.{hasCheckpoint, isPermanent, opened, sentUnder, receivedUnder, started, requested, targets, carried}
 use Rattle.rules.specs.declared.Local.{Local}
 
 -- What a channel carries: messages ("hand-overs"), with cars and the flag ("marked bit"), and requests, with a set of zones.
@@ -15,25 +15,28 @@ pub data Item : Type 0 where
   message : (cars : ℕ) (flag : Bool) → Item
   request : (set : ℕ) → Item
 
--- The zones by index, and the channel from the first index to the second.
+-- The edition, the zones by index, and the channel from the first index to the second.
 pub record Site : Type 0 where
+  pub edition : ℕ
   pub zone : ℕ → Local
   pub channel : ℕ → ℕ → List Item
 
 -- Hand-over of cars from a to b: "The item joins the line; its marked bit is 1 when the sender has either mark."
 abbrev pub sendS : ℕ → ℕ → ℕ → Site → Site
 sendS a b cars s = record {
-  zone = λ k. on (eqb k a) (sent cars) (s .zone k);
+  edition = s .edition;
+  zone = λ k. on (eqb k a) (sentUnder (s .edition) cars) (s .zone k);
   channel = λ i j. on (eqb i a && eqb j b) (join (message cars (hasCheckpoint (s .zone a .checkpoint)))) (s .channel i j);
 }
 
 -- The first item of the channel from a to b leaves it.
 abbrev pub popS : ℕ → ℕ → Site → Site
-popS a b s = record { zone = s .zone; channel = λ i j. on (eqb i a && eqb j b) tail (s .channel i j) }
+popS a b s = record { edition = s .edition; zone = s .zone; channel = λ i j. on (eqb i a && eqb j b) tail (s .channel i j) }
 
 -- Zone b changes and puts a request, carrying a set, on its channel to each zone of another set.
 abbrev pub requestAllS : ℕ → (Local → Local) → ℕ → ℕ → Site → Site
 requestAllS b change to set s = record {
+  edition = s .edition;
   zone = λ k. on (eqb k b) change (s .zone k);
   channel = λ i j. on (eqb i b && has to j) (join (request set)) (s .channel i j);
 }
@@ -41,7 +44,8 @@ requestAllS b change to set s = record {
 -- Receipt by b of the message that stands first on the channel from a.
 abbrev pub receiveS : ℕ → ℕ → ℕ → Bool → Site → Site
 receiveS a b cars flag s = record {
-  zone = λ k. on (eqb k b) (received a cars flag) (s .zone k);
+  edition = s .edition;
+  zone = λ k. on (eqb k b) (receivedUnder (s .edition) a cars flag) (s .zone k);
   channel = λ i j. on (eqb i a && eqb j b) tail (s .channel i j);
 }
 
@@ -77,7 +81,7 @@ stepS (start a) s = startS a s
 
 -- The site of an opening.
 abbrev pub openS : Opening → Site
-openS o = record { zone = λ k. opened k (o .stocks k); channel = λ i j. [] }
+openS o = record { edition = o .edition; zone = λ k. opened k (o .stocks k); channel = λ i j. [] }
 
 -- Does a channel hold a request?
 abbrev pub waits : List Item → Bool

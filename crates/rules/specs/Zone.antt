@@ -2,6 +2,8 @@
 use mathlib.Core.Bool.{Bool, true, false, cond}
 use Prim.Native.Nat.{ℕ, _+_, _-_}
 use lib.Dec.{eqb}
+use Rattle.rules.specs.Change.{on}
+use Rattle.rules.specs.Edition.{isTraffic}
 use Rattle.rules.specs.Sets.{only, union, difference}
 use Rattle.rules.specs.declared.Local.{Local}
 use Rattle.rules.specs.declared.Saved.{Saved}
@@ -24,21 +26,16 @@ isPermanent (Permanent s) = true
 abbrev pub opened : ℕ → ℕ → Local
 opened me stock = record { stock = stock; deps = only me; events = 0; checkpoint = None }
 
--- What a message ("hand-over") of so many cars adds to the own events of the zone that sends or receives it: one, whatever the
--- number. "A hand-over of 0 cars is treated as any other"; starts and requests add nothing.
-abbrev pub ownEvents : ℕ → ℕ
-ownEvents cars = 1
-
 -- "A mark keeps the stock and the number of own events at that moment."
 abbrev pub saved : Local → Saved
 saved z = record { stock = z .stock; events = z .events }
 
--- Hand-over, the sender's side: "the sender's stock falls by the cars".
+-- Hand-over that is traffic, the sender's side: "the sender's stock falls by the cars". It is an own event, starts and requests are none.
 abbrev pub sent : ℕ → Local → Local
 sent cars z = record {
   stock = z .stock - cars;
   deps = z .deps;
-  events = z .events + ownEvents cars;
+  events = z .events + 1;
   checkpoint = z .checkpoint;
 }
 
@@ -57,14 +54,21 @@ checkpointAfter None now true = Mutable now
 checkpointAfter (Mutable s) now flag = Mutable s
 checkpointAfter (Permanent s) now flag = Permanent s
 
--- Receipt of a hand-over: "the receiver's stock rises. Before that:" the dependency set or the checkpoint.
+-- Receipt of a hand-over that is traffic: "the receiver's stock rises. Before that:" the dependency set or the checkpoint.
 abbrev pub received : ℕ → ℕ → Bool → Local → Local
 received from cars flag z = record {
   stock = z .stock + cars;
   deps = depsAfter (z .checkpoint) (z .deps) from flag;
-  events = z .events + ownEvents cars;
+  events = z .events + 1;
   checkpoint = checkpointAfter (z .checkpoint) (saved z) flag;
 }
+
+-- Both in an edition: a hand-over that is no traffic there, a line check, leaves either zone as it is.
+abbrev pub sentUnder : ℕ → ℕ → Local → Local
+sentUnder edition cars z = on (isTraffic edition cars) (sent cars) z
+
+abbrev pub receivedUnder : ℕ → ℕ → ℕ → Bool → Local → Local
+receivedUnder edition from cars flag z = on (isTraffic edition cars) (received from cars flag) z
 
 -- The zone with another checkpoint.
 abbrev pub withCheckpoint : Checkpoint → Local → Local

@@ -10,8 +10,6 @@ pub const MOST_CARS: u16 = 65535;
 
 pub const MOST_RECORDS: u16 = 1000;
 
-pub const EDITION: u8 = 1;
-
 // `mostCars` as the bound of a sum, which is computed in 32 bits.
 pub const MOST_SUM: u32 = MOST_CARS as u32;
 
