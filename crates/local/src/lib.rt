@@ -3,7 +3,7 @@
 ghost use mathlib.Core.Path.{_≡_};
 ghost use Prim.Native.Nat.{_+_, _<_, _≤_};
 ghost use Rattle.rules.specs.Limits.{mostZones, mostCars, mostRecords};
-ghost use Rattle.rules.specs.Zone.{hasCheckpoint, isPermanent, opened, sent, depsAfter, checkpointAfter, received, withCheckpoint};
+ghost use Rattle.rules.specs.Zone.{hasCheckpoint, isPermanent, opened, sentUnder, depsAfter, checkpointAfter, receivedUnder, withCheckpoint};
 ghost use Rattle.rules.specs.declared.Checkpoint.the-variants.{Permanent};
 ghost use Rattle.rules.specs.Sets.{only};
 ghost use Rattle.local.specs.Requesting.{requestedBy, startedBy, turned};
@@ -61,11 +61,15 @@ pub fn open(me: u8, stock: u16) -> Local
     }
 }
 
-// The sender's side of a message. Steps and zone call it behind 6 and 7: there is room for an own event, and the stock covers the cars.
-pub fn send(mut z: Local, cars: u8) -> Local
+// The sender's side of a message, in an edition. Steps and zone call it behind 6 and 7: there is room for an own event, and the stock covers
+// the cars.
+pub fn send(mut z: Local, edition: u8, cars: u8) -> Local
     requires { ⌜ (cars ≤ z .stock) × (z .events < mostRecords) ⌝ }
-    ensures { λ r. ⌜ r ≡ sent cars z ⌝ }
+    ensures { λ r. ⌜ r ≡ sentUnder edition cars z ⌝ }
 {
+    if !edition::is_traffic(edition, cars) {
+        return z;
+    }
     z.stock = z.stock - cars as u16;
     z.events = z.events + 1;
     z
@@ -101,11 +105,15 @@ fn checkpoint_after(checkpoint: Checkpoint, now: Saved, flag: bool) -> Checkpoin
     }
 }
 
-// The receiver's side of a message. Steps and zone call it behind 5 and 6, and behind 1 or 20, by which the stock stays within 16 bits.
-pub fn receive(z: Local, from: u8, cars: u8, flag: bool) -> Local
+// The receiver's side of a message, in an edition. Steps and zone call it behind 5 and 6, and behind 1 or 20, by which the stock stays within
+// 16 bits.
+pub fn receive(z: Local, edition: u8, from: u8, cars: u8, flag: bool) -> Local
     requires { ⌜ (from < mostZones) × (z .stock + cars ≤ mostCars) × (z .events < mostRecords) ⌝ }
-    ensures { λ r. ⌜ r ≡ received from cars flag z ⌝ }
+    ensures { λ r. ⌜ r ≡ receivedUnder edition from cars flag z ⌝ }
 {
+    if !edition::is_traffic(edition, cars) {
+        return z;
+    }
     let stock = z.stock + cars as u16;
     let events = z.events + 1;
     let earlier = z.checkpoint;
