@@ -19,7 +19,7 @@ use Rattle.local.specs.Requesting.{requestedBy, startedBy}
 use Rattle.channel.specs.Words.{itemOf}
 use Rattle.channel.specs.Channels.{channelIndex, lenOf, isFree, firstOf, freeBelow, allFree}
 use Rattle.channel.proofs.View.{items-length}
-use Rattle.run.specs.State.{zoneAt, isSound, hasStarted, countOf}
+use Rattle.run.specs.State.{zoneAt, isSound, hasStarted, editionOf, countOf}
 use Rattle.run.specs.Calls.{refused, isPair, itemReceived, granted, questions}
 use Rattle.run.specs.Model.{siteOf}
 use Rattle.run.specs.Lists.{isAccepted}
@@ -76,11 +76,11 @@ module _ (r : Run) (w : WholeRun r) (s : SoundRun r) where
   nobody-sited : (b j : ℕ) → has nobody j ≡ true → (j < countOf (r .head)) × (j ≢ b)
   nobody-sited b j g = absurd (true≢false (sym g ∙ has-nobody j))
 
-  received-sited : (a b : ℕ) (x : Item) (z : Local) → z .deps < 2 ^ countOf (r .head) → (j : ℕ) → has (itemReceived a b x z .to) j ≡ true
+  received-sited : (edition a b : ℕ) (x : Item) (z : Local) → z .deps < 2 ^ countOf (r .head) → (j : ℕ) → has (itemReceived edition a b x z .to) j ≡ true
       → (j < countOf (r .head)) × (j ≢ b)
   unfolding requestedBy
-  received-sited a b (message cars flag) z e j g = nobody-sited b j g
-  received-sited a b (request set) z e j g = go (isPermanent (z .checkpoint)) refl
+  received-sited edition a b (message cars flag) z e j g = nobody-sited b j g
+  received-sited edition a b (request set) z e j g = go (isPermanent (z .checkpoint)) refl
     where
       go : (p : Bool) → isPermanent (z .checkpoint) ≡ p → (j < countOf (r .head)) × (j ≢ b)
       go true q = nobody-sited b j (rw q at g)
@@ -121,7 +121,7 @@ receive-accepted r from to w e p h n f =
           lt-ltb _ _ h,
           (
             not-of (ne-eqb (lenOf (r .channels) (channelIndex a b)) 0 (λ g. n (no-items _ (l ∙ g)))),
-            (all-free r w s b (itemReceived a b x z .to) (q .to) (received-sited r w s a b x z (deps-at r w s b (q .to))) f, tt),
+            (all-free r w s b (itemReceived (editionOf (r .head)) a b x z .to) (q .to) (received-sited r w s (editionOf (r .head)) a b x z (deps-at r w s b (q .to))) f, tt),
           ),
         ),
       ),

@@ -6,9 +6,9 @@ use mathlib.Core.List.{List, [], _∷_}
 use Prim.Native.Nat.{ℕ}
 use Rattle.rules.specs.Questions.{Question, question, ask, refusal, index, Among}
 use Rattle.channel.specs.Channels.{channelIndex, lenOf}
-use Rattle.run.specs.State.{zoneAt, isSound, hasStarted, countOf}
+use Rattle.run.specs.State.{zoneAt, isSound, hasStarted, termsOf, countOf}
 use Rattle.run.specs.Calls.{refused, answer, granted, questions, actorIn}
-use Rattle.run.specs.Claims.{sendQuestions, sendRefusal, possibleAnswers}
+use Rattle.run.specs.Claims.{sendQuestions, sendRefusal, openRefusals, possibleAnswers}
 use Rattle.run.specs.declared.Run.{Run}
 use Rattle.run.specs.declared.Answer.{Answer}
 use Rattle.run.proofs.Outcome.{answer-is, listed, unlisted}
@@ -52,13 +52,13 @@ send-among count records stock len from to cars = refusal-among (sendQuestions c
 pub call-among : (c : SiteCall) (r : Run) → Among (answer c r .refusal) (possibleAnswers c)
 call-among c r =
     subst (λ (n : ℕ). Among n (possibleAnswers c)) (sym (refusal-is c r))
-    (subst (λ (ns : List ℕ). Among (refusal (questions c r)) (0 ∷ 1 ∷ 5 ∷ 6 ∷ ns)) (listed c (actorIn c r) (r .channels) (hasStarted (r .head)))
+    (subst (λ (ns : List ℕ). Among (refusal (questions c r)) (0 ∷ 1 ∷ 5 ∷ 6 ∷ ns)) (listed c (termsOf (r .head)) (actorIn c r) (r .channels) (hasStarted (r .head)))
     (refusal-among (questions c r)))
 
-pub open-among : (o : Opening) → Among (openCall o .refusal) (0 ∷ 2 ∷ 3 ∷ 4 ∷ [])
+pub open-among : (o : Opening) → Among (openCall o .refusal) (0 ∷ openRefusals)
 unfolding openCall
 open-among o =
-    subst (λ (n : ℕ). Among n (0 ∷ 2 ∷ 3 ∷ 4 ∷ [])) (sym (ask-refusal (openQuestions o) _ _ refl))
+    subst (λ (n : ℕ). Among n (0 ∷ openRefusals)) (sym (ask-refusal (openQuestions o) _ _ refl))
     (refusal-among (openQuestions o))
 
 -- No call answers 20.
@@ -66,4 +66,4 @@ pub call-never-20 : (c : SiteCall) (r : Run) → answer c r .refusal ≢ 20
 call-never-20 c r = not-among (answer c r .refusal) 20 (possibleAnswers c) (call-among c r) (unlisted c .1)
 
 pub open-never-20 : (o : Opening) → openCall o .refusal ≢ 20
-open-never-20 o = not-among (openCall o .refusal) 20 (0 ∷ 2 ∷ 3 ∷ 4 ∷ []) (open-among o) refl
+open-never-20 o = not-among (openCall o .refusal) 20 (0 ∷ openRefusals) (open-among o) refl

@@ -26,6 +26,7 @@ use Rattle.run.specs.Claims.{WholeRun, Typed, AllTyped, allCars}
 use Rattle.run.specs.declared.Run.{Run}
 use Rattle.run.specs.declared.Answer.{Answer}
 use Rattle.run.proofs.Outcome.{Pair, Sited, sited, Passed, Refused, outcome, is-open, Fitting}
+use Rattle.rules.proofs.Editions.{sent-stock, received-stock}
 use Rattle.rules.proofs.Sums.{sum-same, sum-change}
 use Rattle.run.proofs.BelowLaws.{sum-list}
 use Rattle.run.proofs.Parts.{stocksS, carsS, stocks-are, cars-are, parts}
@@ -104,7 +105,7 @@ module _ (n : ℕ) (most : n ≤ 8) (a b : ℕ) (p : Pair n a b) (s : Site) wher
       let t = stepS (send a b cars) s in
       let z = zone-sum n a s t (p .from) (λ k e. rw e) in
       let c = channel-sum a b s t (omega (arith, p .from)) (omega (arith, p .to)) (λ i j e. rw e) in
-      let x : t .zone a .stock ≡ s .zone a .stock - cars = rw (eqb-refl a) in
+      let x : t .zone a .stock ≡ s .zone a .stock - cars = rw (eqb-refl a) (sent-stock (s .edition) cars (s .zone a)) in
       let y : carsOf (t .channel a b) ≡ carsOf (s .channel a b) + cars = rw (eqb-refl a, eqb-refl b) (cars-join _ (s .channel a b)) in
       omega arith
 
@@ -114,7 +115,7 @@ module _ (n : ℕ) (most : n ≤ 8) (a b : ℕ) (p : Pair n a b) (s : Site) wher
       let t = takeS a b (message cars flag ∷ rest) s in
       let z = zone-sum n b s t (p .to) (λ k e. rw e) in
       let c = channel-sum a b s t (omega (arith, p .from)) (omega (arith, p .to)) (λ i j e. rw e) in
-      let x : t .zone b .stock ≡ s .zone b .stock + cars = rw (eqb-refl b) in
+      let x : t .zone b .stock ≡ s .zone b .stock + cars = rw (eqb-refl b) (received-stock (s .edition) a cars flag (s .zone b)) in
       let y : carsOf (t .channel a b) ≡ carsOf rest = rw (eqb-refl a, eqb-refl b, e) in
       let v : carsOf (s .channel a b) ≡ cars + carsOf rest = rw e in
       omega arith

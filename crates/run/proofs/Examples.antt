@@ -1,11 +1,14 @@
 -- Short lists of calls, computed: openings and calls of every kind are accepted, and do what the rules say.
 use mathlib.Core.Path.{_≡_, refl}
-use mathlib.Core.Bool.{true, false}
+use mathlib.Core.Bool.{Bool, true, false}
 use mathlib.Core.List.{List, [], _∷_}
-use lib.ListN.{replicate}
+use Prim.Native.Nat.{ℕ}
+use lib.ListN.{replicate, take}
+use Rattle.rules.specs.Edition.{isEdition, isTraffic}
 use Rattle.rules.specs.Questions.{isCount, isOn}
 use Rattle.rules.specs.Sets.{has, members}
 use Rattle.rules.specs.Site.{message, request, send, receive, start}
+use Rattle.rules.specs.Zone.{hasCheckpoint}
 use Rattle.local.specs.Requesting.{requestedBy, startedBy}
 use Rattle.channel.specs.Words.{itemOf, messageWord}
 use Rattle.channel.specs.Channels.{pushed, movedDown, popped, allFree, requestedAll, isChannel}
@@ -19,9 +22,12 @@ use Rattle.run.specs.declared.SiteCall.{SiteCall}
 use Rattle.run.specs.declared.SiteCall.the-variants.{Receive, Send, Start}
 use Rattle.run.specs.Opening.{openCall, openedRun, openingAs, termsAs}
 
--- Three zones with 10, 20 and 30 cars.
+-- Three zones with 10, 20 and 30 cars, in an edition.
+abbrev opened : ℕ → Run
+opened edition = openCall (openingAs (termsAs edition 3) (10 ∷ 20 ∷ 30 ∷ [])) .run
+
 abbrev three : Run
-three = openCall (openingAs (termsAs 3) (10 ∷ 20 ∷ 30 ∷ [])) .run
+three = opened 1
 
 -- Zone 2 takes a mutable checkpoint by the second message of zone 1, so that its own message to zone 3 bears the flag; it is
 -- refused as a second starter.
@@ -59,11 +65,27 @@ Refused = (answer (Receive 3 1) (after full three) .refusal ≡ 10)
 -- The numbers of refusals: where two questions are answered no, that of the first. Zone 1 has 10 cars, its channel to zone 2 is full,
 -- and zone 3 has started.
 abbrev Numbers : Type 0
-Numbers = (openCall (openingAs (termsAs 9) []) .refusal ≡ 2) × (openCall (openingAs (termsAs 2) (65536 ∷ [])) .refusal ≡ 3) × (openCall (openingAs (termsAs 2) (65535 ∷ 1 ∷ [])) .refusal ≡ 4)
+Numbers = (openCall (openingAs (termsAs 0 9) []) .refusal ≡ 15) × (openCall (openingAs (termsAs 3 9) []) .refusal ≡ 15)
+    × (openCall (openingAs (termsAs 2 9) []) .refusal ≡ 2) × (openCall (openingAs (termsAs 1 2) (65536 ∷ [])) .refusal ≡ 3)
+    × (openCall (openingAs (termsAs 2 2) (65535 ∷ 1 ∷ [])) .refusal ≡ 4)
     × (answer (Send 1 1 0) three .refusal ≡ 5) × (answer (Send 1 2 11) (after full three) .refusal ≡ 7)
     × (answer (Send 1 2 0) (after full three) .refusal ≡ 8) × (answer (Receive 1 2) three .refusal ≡ 9)
     × (answer (Start 1) (after full three) .refusal ≡ 11)
 
-pub computed : Flag × First × Sent × Refused × Numbers
-unfolding isCount isOn has members requestedBy startedBy itemOf messageWord pushed movedDown popped allFree requestedAll isChannel localSound localsSound channelSound channelsSound stocks carsOnChannels partsSound hasStarted openedRun isPair openCall answer
-computed = ((refl, refl, refl, refl, refl), (refl, refl), (refl, refl, refl), (refl, refl), (refl, refl, refl, refl, refl, refl, refl, refl))
+-- Line checks between zones 2 and 1, one without and one with the flag: what they leave of zone 1 in an edition, its stock, dependency set
+-- and own events, and whether it has a checkpoint; and what stands on the channel before.
+abbrev checked : List SiteCall
+checked = Send 2 1 0 ∷ Receive 2 1 ∷ Start 2 ∷ Send 2 1 0 ∷ Receive 2 1 ∷ []
+
+abbrev Left : ℕ → ℕ → ℕ → Bool → Type 0
+Left edition deps events checkpoint =
+    let z = siteOf (after checked (opened edition)) .zone 0 in
+    (z .stock ≡ 10) × (z .deps ≡ deps) × (z .events ≡ events) × (hasCheckpoint (z .checkpoint) ≡ checkpoint)
+    × (siteOf (after (take 4 checked) (opened edition)) .channel 1 0 ≡ message 0 true ∷ [])
+
+abbrev Checks : Type 0
+Checks = Left 1 3 2 true × Left 2 1 0 false
+
+pub computed : Flag × First × Sent × Refused × Numbers × Checks
+unfolding isEdition isTraffic isCount isOn has members requestedBy startedBy itemOf messageWord pushed movedDown popped allFree requestedAll isChannel localSound localsSound channelSound channelsSound stocks carsOnChannels partsSound hasStarted openedRun isPair openCall answer
+computed = ((refl, refl, refl, refl, refl), (refl, refl), (refl, refl, refl), (refl, refl), (refl, refl, refl, refl, refl, refl, refl, refl, refl, refl), ((refl, refl, refl, refl, refl), (refl, refl, refl, refl, refl)))

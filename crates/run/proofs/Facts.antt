@@ -10,6 +10,7 @@ use lib.ListN.{getD, take, drop}
 use lib.Pow.{pow-pos}
 use lib.Seq.{getD-take, getD-drop}
 use borrow.Author.Tests.{leb-true, ltb-true, lt-ltb, ne-eqb}
+use Rattle.rules.specs.Edition.{isEdition}
 use Rattle.rules.specs.Questions.{isCount}
 use Rattle.rules.specs.Sets.{within}
 use Rattle.rules.proofs.QuestionLaws.{count-low, count-high}
@@ -19,7 +20,7 @@ use Rattle.channel.specs.Channels.{channelIndex, lenOf, wordsOn, itemsOn, first
 use Rattle.channel.specs.declared.Channels.{Channels}
 use Rattle.rules.proofs.Sums.{sum-at}
 use Rattle.run.proofs.BelowLaws.{all-at}
-use Rattle.run.specs.State.{zoneAt, localSound, localsSound, setsWithin, channelSound, channelsSound, carsOf, stocks, carsOnChannels, partsSound, countOf, termsOf}
+use Rattle.run.specs.State.{zoneAt, localSound, localsSound, setsWithin, channelSound, channelsSound, carsOf, stocks, carsOnChannels, partsSound, editionOf, countOf, termsOf}
 use Rattle.run.specs.declared.Head.{Head}
 
 -- The channel of two zones, by their indices.
@@ -73,18 +74,29 @@ module _ (h : Head) (l : Channels) (sound : partsSound h l ≡ true) where
   abbrev records : ℕ
   records = h .records
 
-  front : isCount count && leb records 1000 && localsSound h && channelsSound (termsOf h) l ≡ true
+  -- The questions of the edition, the count, the records, and so on, in their order: those up to the channels, the zones, the records, the
+  -- count.
+  abbrev numbered : Bool
+  numbered = isEdition (editionOf h) && isCount count && leb records 1000
+
+  front : numbered && localsSound h && channelsSound (termsOf h) l ≡ true
   unfolding partsSound
-  front = and-left (isCount count && leb records 1000 && localsSound h && channelsSound (termsOf h) l) _ sound
+  front = and-left (numbered && localsSound h && channelsSound (termsOf h) l) _ sound
 
-  three : isCount count && leb records 1000 && localsSound h ≡ true
-  three = and-left (isCount count && leb records 1000 && localsSound h) _ front
+  three : numbered && localsSound h ≡ true
+  three = and-left (numbered && localsSound h) _ front
 
-  two : isCount count && leb records 1000 ≡ true
-  two = and-left (isCount count && leb records 1000) _ three
+  two : numbered ≡ true
+  two = and-left numbered _ three
+
+  one : isEdition (editionOf h) && isCount count ≡ true
+  one = and-left (isEdition (editionOf h) && isCount count) _ two
+
+  pub sound-edition : isEdition (editionOf h) ≡ true
+  sound-edition = and-left (isEdition (editionOf h)) _ one
 
   pub sound-count : isCount count ≡ true
-  sound-count = and-left (isCount count) _ two
+  sound-count = and-right (isEdition (editionOf h)) (isCount count) one
 
   pub sound-low : 2 ≤ count
   sound-low = count-low count sound-count
@@ -93,12 +105,12 @@ module _ (h : Head) (l : Channels) (sound : partsSound h l ≡ true) where
   sound-high = count-high count sound-count
 
   pub sound-records : records ≤ 1000
-  sound-records = leb-true records 1000 (and-right (isCount count) (leb records 1000) two)
+  sound-records = leb-true records 1000 (and-right (isEdition (editionOf h) && isCount count) (leb records 1000) two)
 
   sound-zone : (i : ℕ) → i < count → localSound count records (zoneAt h i) ≡ true
   unfolding localsSound
   sound-zone i b =
-      all-at count (λ i. localSound count records (zoneAt h i)) (and-right (isCount count && leb records 1000) (localsSound h) three) i b
+      all-at count (λ i. localSound count records (zoneAt h i)) (and-right numbered (localsSound h) three) i b
 
   pub sound-events : (i : ℕ) → i < count → zoneAt h i .events ≤ records
   unfolding localSound
@@ -113,7 +125,7 @@ module _ (h : Head) (l : Channels) (sound : partsSound h l ≡ true) where
   unfolding channelsSound
   sound-channel k b e =
       let q : not (isChannel count k) || channelSound (termsOf h) l k ≡ true = all-at 64 (λ k. not (isChannel count k) || channelSound (termsOf h) l k)
-      (and-right (isCount count && leb records 1000 && localsSound h) (channelsSound (termsOf h) l) front) k b in
+      (and-right (numbered && localsSound h) (channelsSound (termsOf h) l) front) k b in
       rw e at q
 
   pub sound-length : (k : ℕ) → k < 64 → isChannel count k ≡ true → lenOf l k ≤ 16
@@ -133,7 +145,7 @@ module _ (h : Head) (l : Channels) (sound : partsSound h l ≡ true) where
   unfolding partsSound
   sound-total =
       leb-true (stocks h + carsOnChannels count l) 65535
-      (and-right (isCount count && leb records 1000 && localsSound h && channelsSound (termsOf h) l) _ sound)
+      (and-right (numbered && localsSound h && channelsSound (termsOf h) l) _ sound)
 
   -- A zone has room for what stands first on a channel: the sum of question 1 has both.
   pub sound-room : (i k : ℕ) → i < count → k < 64 → isChannel count k ≡ true → 0 < lenOf l k

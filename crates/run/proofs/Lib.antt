@@ -6,6 +6,7 @@ pub mod IndexLaws
 pub mod Parts
 pub mod SetBounds
 pub mod Refine
+pub mod Checks
 pub mod Reach
 pub mod Conserve
 pub mod Sound

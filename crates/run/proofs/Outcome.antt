@@ -8,31 +8,34 @@ use native.Mathlib.Omega.{arith}
 use lib.Dec.{eqb, leb}
 use lib.ListN.{length}
 use borrow.Author.Tests.{leb-true, ltb-true, eqb-true, eqb-false, not-true, ne-eqb, le-leb}
+use Rattle.rules.specs.Edition.{isEdition}
 use Rattle.rules.specs.Limits.{mostCars, mostRecords, places}
 use Rattle.rules.specs.Questions.{ask, index, isCount, isOn, Among}
 use Rattle.rules.specs.Site.{Call, send, receive, start}
 use Rattle.rules.proofs.Tests.{and-left, and-right}
+use Rattle.rules.proofs.Editions.{first-edition}
 use Rattle.local.specs.Requesting.{startedBy}
 use Rattle.local.specs.declared.Requesting.{Requesting}
 use Rattle.channel.specs.Channels.{channelIndex, lenOf, allFree}
 use Rattle.channel.specs.declared.Channels.{Channels}
 use Rattle.rules.specs.declared.Local.{Local}
 use Rattle.rules.specs.Below.{sum}
-use Rattle.run.specs.State.{zoneAt, isSound, hasStarted, countOf}
+use Rattle.run.specs.State.{zoneAt, isSound, hasStarted, termsOf, countOf}
 use Rattle.run.specs.Calls.{refused, isPair, answer, granted, questions, firstReceived, isNamed, actor, actorIn, ownQuestions}
 use Rattle.run.specs.Lists.{callOf, isAccepted}
-use Rattle.run.specs.Claims.{ownRefusals, possibleAnswers}
+use Rattle.run.specs.Claims.{ownRefusals, openRefusals, possibleAnswers}
 use Rattle.run.specs.declared.Run.{Run}
 use Rattle.run.specs.declared.Answer.{Answer}
 use Rattle.run.specs.declared.SiteCall.{SiteCall}
 use Rattle.run.specs.declared.SiteCall.the-variants.{Receive, Send, Start}
 use Rattle.run.specs.declared.Opening.{Opening}
+use Rattle.run.specs.declared.Terms.{Terms}
 use Rattle.run.specs.Opening.{fallback, openCall, openedRun, openQuestions}
 use Rattle.rules.proofs.AskLaws.{not-among, lacks, AllYes, numbers, ask-cases}
 
 -- What the receipt of the first item on the channel from a to b, and what a start by a, makes of the zone of a run that acts.
 abbrev pub gotBy : ℕ → ℕ → Run → Requesting
-gotBy a b r = firstReceived a b (zoneAt (r .head) b) (r .channels)
+gotBy a b r = firstReceived (termsOf (r .head)) a b (zoneAt (r .head) b) (r .channels)
 
 abbrev pub startBy : ℕ → Run → Requesting
 startBy a r = startedBy a (zoneAt (r .head) a)
@@ -133,18 +136,19 @@ asks (Receive from to) r (s, (p, (h, (e, (f, u))))) = (pair (countOf (r .head)) 
 asks (Start zone) r (s, (p, (h, (e, (f, u))))) = (zone-sited (countOf (r .head)) zone p .1, not-true _ e, f)
 
 -- A call's own questions have its numbers; 0 and 20 are none of them.
-pub listed : (c : SiteCall) (z : Local) (l : Channels) (started : Bool) → numbers (ownQuestions c z l started) ≡ ownRefusals c
-listed (Send from to cars) z l started = refl
-listed (Receive from to) z l started = refl
-listed (Start zone) z l started = refl
+pub listed : (c : SiteCall) (t : Terms) (z : Local) (l : Channels) (started : Bool) → numbers (ownQuestions c t z l started) ≡ ownRefusals c
+listed (Send from to cars) t z l started = refl
+listed (Receive from to) t z l started = refl
+listed (Start zone) t z l started = refl
 
 pub unlisted : (c : SiteCall) → (lacks 0 (ownRefusals c) ≡ true) × (lacks 20 (ownRefusals c) ≡ true)
 unlisted (Send from to cars) = (refl, refl)
 unlisted (Receive from to) = (refl, refl)
 unlisted (Start zone) = (refl, refl)
 
-pub own-nonzero : (c : SiteCall) (z : Local) (l : Channels) (started : Bool) → lacks 0 (numbers (ownQuestions c z l started)) ≡ true
-own-nonzero c z l started = ap (lacks 0) (listed c z l started) ∙ unlisted c .0
+pub own-nonzero : (c : SiteCall) (t : Terms) (z : Local) (l : Channels) (started : Bool)
+    → lacks 0 (numbers (ownQuestions c t z l started)) ≡ true
+own-nonzero c t z l started = ap (lacks 0) (listed c t z l started) ∙ unlisted c .0
 
 pub outcome : (c : SiteCall) (r : Run) → Passed c r ⊎ Refused c r
 outcome c r = go (ask-cases (questions c r) (refused r) (granted c r))
@@ -164,7 +168,7 @@ outcome c r = go (ask-cases (questions c r) (refused r) (granted c r))
         })
     go (inr h) =
         let e = answer-is c r ∙ h .2 in
-        let m = subst (λ (ns : List ℕ). Among (h .0) (1 ∷ 5 ∷ 6 ∷ ns)) (listed c (actorIn c r) (r .channels) (hasStarted (r .head))) (h .1) in
+        let m = subst (λ (ns : List ℕ). Among (h .0) (1 ∷ 5 ∷ 6 ∷ ns)) (listed c (termsOf (r .head)) (actorIn c r) (r .channels) (hasStarted (r .head))) (h .1) in
         inr (record {
           said = ap (λ (x : Answer). eqb (x .refusal) 0) e ∙ ne-eqb (h .0) 0 (not-among (h .0) 0 (tail (possibleAnswers c)) m (unlisted c .0));
           number = h .0;
@@ -201,8 +205,9 @@ kept c r e = go (outcome c r)
 abbrev pub opening : Opening → Answer
 opening o = record { refusal = 0; run = openedRun o }
 
--- What questions 2 to 4 ask of an opening.
+-- What questions 15 and 2 to 4 ask of an opening.
 pub record Fitting (o : Opening) : Type 0 where
+  pub edition : isEdition (o .terms .edition) ≡ true
   pub fewest : 2 ≤ o .terms .count
   pub most : o .terms .count ≤ 8
   pub lengths : length (o .stocks) ≡ o .terms .count
@@ -214,7 +219,7 @@ pub record Opened (o : Opening) : Type 0 where
 
 pub record NotOpened (o : Opening) : Type 0 where
   pub number : ℕ
-  pub among : Among number (2 ∷ 3 ∷ 4 ∷ [])
+  pub among : Among number openRefusals
   pub result : openCall o ≡ refused (openedRun fallback) number
 
 pub open-outcome : (o : Opening) → Opened o ⊎ NotOpened o
@@ -222,15 +227,16 @@ unfolding openCall isCount
 open-outcome o = go (ask-cases (openQuestions o) (refused (openedRun fallback)) (opening o))
   where
     go : (AllYes (openQuestions o) × (openCall o ≡ opening o))
-        ⊎ ((n : ℕ) × Among n (2 ∷ 3 ∷ 4 ∷ []) × (openCall o ≡ refused (openedRun fallback) n))
+        ⊎ ((n : ℕ) × Among n openRefusals × (openCall o ≡ refused (openedRun fallback) n))
         → Opened o ⊎ NotOpened o
     go (inl h) =
         inl (record {
           fits = record {
-            fewest = leb-true 2 (o .terms .count) (and-left (leb 2 (o .terms .count)) (leb (o .terms .count) 8) (h .0 .0));
-            most = leb-true (o .terms .count) 8 (and-right (leb 2 (o .terms .count)) (leb (o .terms .count) 8) (h .0 .0));
-            lengths = eqb-true _ _ (h .0 .1 .0);
-            cars = leb-true _ _ (h .0 .1 .1 .0);
+            edition = h .0 .0;
+            fewest = leb-true 2 (o .terms .count) (and-left (leb 2 (o .terms .count)) (leb (o .terms .count) 8) (h .0 .1 .0));
+            most = leb-true (o .terms .count) 8 (and-right (leb 2 (o .terms .count)) (leb (o .terms .count) 8) (h .0 .1 .0));
+            lengths = eqb-true _ _ (h .0 .1 .1 .0);
+            cars = leb-true _ _ (h .0 .1 .1 .1 .0);
           };
           result = h .1;
         })
@@ -242,8 +248,8 @@ is-open o e = go (open-outcome o)
     go : Opened o ⊎ NotOpened o → Opened o
     go (inl p) = p
     go (inr p) =
-        absurd (not-among (p .number) 0 (2 ∷ 3 ∷ 4 ∷ []) (p .among) refl (sym (ap (λ (x : Answer). x .refusal) (p .result)) ∙ e))
+        absurd (not-among (p .number) 0 openRefusals (p .among) refl (sym (ap (λ (x : Answer). x .refusal) (p .result)) ∙ e))
 
 -- The opening of the run that a refused opening hands back.
 pub fallback-fits : Fitting fallback
-fallback-fits = record { fewest = omega arith; most = omega arith; lengths = refl; cars = omega arith }
+fallback-fits = record { edition = first-edition; fewest = omega arith; most = omega arith; lengths = refl; cars = omega arith }

@@ -7,6 +7,7 @@ use Prim.Native.Nat.{ℕ, _+_, _*_, _/_, _%_, _^_, _≤_, _<_}
 use native.Mathlib.Omega.{arith}
 use lib.Dec.{eqb, ltb}
 use borrow.Author.Tests.{ltb-true, eqb-false, not-true, lt-ltb, le-leb}
+use Rattle.rules.specs.Edition.{isEdition}
 use Rattle.rules.specs.Limits.{mostZones, mostCars, mostRecords, places}
 use Rattle.rules.specs.Questions.{isCount}
 use Rattle.rules.specs.Site.{Site}
@@ -19,7 +20,7 @@ use Rattle.run.specs.Model.{siteOf}
 use Rattle.run.specs.declared.Run.{Run}
 use Rattle.rules.proofs.Sums.{sum-same}
 use Rattle.run.proofs.BelowLaws.{all-of}
-use Rattle.run.proofs.Facts.{channel-is, channel-at, channel-index-lt, sound-low, sound-high, sound-records, sound-events, sound-deps, sound-length, sound-sets, sound-total}
+use Rattle.run.proofs.Facts.{channel-is, channel-at, channel-index-lt, sound-edition, sound-low, sound-high, sound-records, sound-events, sound-deps, sound-length, sound-sets, sound-total}
 
 -- Is there a channel from i to j on the site?
 abbrev pub onSite : ℕ → ℕ → ℕ → Bool
@@ -56,6 +57,7 @@ unfoldable pub carsS : Site → ℕ
 carsS s = sumBelow (mostZones * mostZones) (λ k. carsOf (s .channel (k / mostZones) (k % mostZones)))
 
 pub record SoundRun (r : Run) : Type 0 where
+  pub edition : isEdition (siteOf r .edition) ≡ true
   pub fewest : 2 ≤ countOf (r .head)
   pub most : countOf (r .head) ≤ 8
   pub records : r .head .records ≤ mostRecords
@@ -127,6 +129,7 @@ pub parts : (r : Run) → isSound r ≡ true → SoundRun r
 parts r h =
     let m = sound-high _ _ h in
     record {
+      edition = sound-edition _ _ h;
       fewest = sound-low _ _ h;
       most = m;
       records = sound-records _ _ h;
@@ -141,6 +144,7 @@ pub sound : (r : Run) → SoundRun r → isSound r ≡ true
 unfolding partsSound isCount
 sound r h =
     rw (
+      h .edition,
       le-leb _ _ (h .fewest),
       le-leb _ _ (h .most),
       le-leb _ _ (h .records),

@@ -13,7 +13,7 @@ use Rattle.rules.specs.Change.{on, join}
 use Rattle.rules.specs.Limits.{places}
 use Rattle.rules.specs.Questions.{index}
 use Rattle.rules.specs.Sets.{has, nobody}
-use Rattle.rules.specs.Zone.{hasCheckpoint, isPermanent, opened, sent, received, started, requested, targets, carried}
+use Rattle.rules.specs.Zone.{hasCheckpoint, isPermanent, opened, sentUnder, receivedUnder, started, requested, targets, carried}
 use Rattle.rules.specs.Site.{Item, message, request, Site, sendS, popS, turnS, startS, takeS, stepS, openS}
 use Rattle.rules.specs.Cut.{May}
 use Rattle.rules.specs.declared.Local.{Local}
@@ -25,7 +25,7 @@ use Rattle.channel.specs.Words.{itemOf, messageWord}
 use Rattle.channel.specs.Channels.{Whole, channelIndex, lenOf, itemsOn, pushed, popped, firstOf, freeBelow, allFree, requestedAll}
 use Rattle.channel.specs.declared.Channels.{Channels}
 use Rattle.channel.proofs.View.{item-message, pop-whole, items-first, items-pushed, items-popped, len-pop-other, requested-items}
-use Rattle.run.specs.State.{noLocal, locals, zoneAt, hasStarted, countOf, putBack}
+use Rattle.run.specs.State.{noLocal, locals, zoneAt, hasStarted, editionOf, countOf, putBack}
 use Rattle.run.specs.Calls.{accepted, itemReceived, answer, granted, recordOf}
 use Rattle.run.specs.Model.{siteOf}
 use Rattle.run.specs.Lists.{callOf, isAccepted}
@@ -58,9 +58,9 @@ site-changed : (r : Run) (a : ℕ) (l : Channels) (word : ℕ) (g : Local → Lo
     → ((i j : ℕ) → onSite (countOf (r .head)) i j ≡ true → itemsOn l (channelIndex i j) ≡ change i j (itemsOn (r .channels) (channelIndex i j)))
     → ((i j : ℕ) → onSite (countOf (r .head)) i j ≡ false → change i j [] ≡ [])
     → siteOf (accepted r a (g (zoneAt (r .head) a)) l word .run)
-    ≡ record { zone = λ k. on (eqb k a) g (siteOf r .zone k); channel = λ i j. change i j (siteOf r .channel i j) }
+    ≡ record { edition = siteOf r .edition; zone = λ k. on (eqb k a) g (siteOf r .zone k); channel = λ i j. change i j (siteOf r .channel i j) }
 site-changed r a l word g change w m h inner outer =
-    site≡ _ _ (λ k. zone k (ltb k (countOf (r .head))) refl) (λ i j. channel i j (onSite (countOf (r .head)) i j) refl)
+    site≡ _ _ refl (λ k. zone k (ltb k (countOf (r .head))) refl) (λ i j. channel i j (onSite (countOf (r .head)) i j) refl)
   where
     zone : (k : ℕ) (p : Bool) → ltb k (countOf (r .head)) ≡ p
         → cond p (zoneAt (putBack (r .head) a (g (zoneAt (r .head) a)) (r .head .records + 1)) k) (opened k 0)
@@ -120,7 +120,7 @@ popped-free l a b to d h f =
 module _ (r : Run) (w : WholeRun r) (s : SoundRun r) where
   -- A hand-over from a to b.
   sent-site : (a b cars word : ℕ) → Pair (countOf (r .head)) a b → cars < 256 → lenOf (r .channels) (channelIndex a b) < places
-      → siteOf (accepted r a (sent cars (zoneAt (r .head) a))
+      → siteOf (accepted r a (sentUnder (editionOf (r .head)) cars (zoneAt (r .head) a))
       (pushed (r .channels) (channelIndex a b) (messageWord (hasCheckpoint (zoneAt (r .head) a .checkpoint)) cars)) word .run)
       ≡ sendS a b cars (siteOf r)
   sent-site a b cars word p c free =
@@ -130,7 +130,7 @@ module _ (r : Run) (w : WholeRun r) (s : SoundRun r) where
       let item : itemOf x ≡ message cars (hasCheckpoint (siteOf r .zone a .checkpoint)) =
       item-message (hasCheckpoint (zoneAt (r .head) a .checkpoint)) cars c
       ∙ ap (λ (z : Local). message cars (hasCheckpoint (z .checkpoint))) (sym (zone-on r a (p .from))) in
-      site-changed r a (pushed (r .channels) (channelIndex a b) x) word (sent cars)
+      site-changed r a (pushed (r .channels) (channelIndex a b) x) word (sentUnder (editionOf (r .head)) cars)
       (λ i j. on (eqb i a && eqb j b) (join (message cars (hasCheckpoint (siteOf r .zone a .checkpoint)))))
       (w .zones) (s .most) (p .from)
       (λ i j e.
@@ -174,6 +174,7 @@ module _ (r : Run) (w : WholeRun r) (s : SoundRun r) where
         → siteOf (accepted r b (g (zoneAt (r .head) b))
         (requestedAll (popped (r .channels) (channelIndex a b)) b to (cond (eqb to 0) 0 set)) word .run)
         ≡ record {
+          edition = siteOf r .edition;
           zone = λ k. on (eqb k b) g (siteOf r .zone k);
           channel = λ i j. on (eqb i b && has to j) (join (request set)) (on (eqb i a && eqb j b) tail (siteOf r .channel i j));
         }
@@ -195,12 +196,13 @@ module _ (r : Run) (w : WholeRun r) (s : SoundRun r) where
     quiet-site : (g : Local → Local) → allFree (r .channels) b nobody ≡ true
         → siteOf (accepted r b (g (zoneAt (r .head) b)) (requestedAll (popped (r .channels) (channelIndex a b)) b nobody nobody) word .run)
         ≡ record {
+          edition = siteOf r .edition;
           zone = λ k. on (eqb k b) g (siteOf r .zone k);
           channel = λ i j. on (eqb i a && eqb j b) tail (siteOf r .channel i j);
         }
     quiet-site g f =
         popped-site g nobody nobody f (λ i j e. rw (has-nobody j, and-false (eqb i b)))
-        ∙ site≡ _ _ (λ k. refl) (λ i j. rw (has-nobody j, and-false (eqb i b)))
+        ∙ site≡ _ _ refl (λ k. refl) (λ i j. rw (has-nobody j, and-false (eqb i b)))
 
     -- The site after b has taken an item, with what that makes of it.
     abbrev receivedAs : Requesting → Site
@@ -213,7 +215,7 @@ module _ (r : Run) (w : WholeRun r) (s : SoundRun r) where
         → receivedAs (requestedBy b set (zoneAt (r .head) b)) ≡ on (not q) (turnS b set) (popS a b (siteOf r))
     unfolding requestedBy
     request-site set true e f =
-        rw e (quiet-site (λ z. z) (rw e at f) ∙ site≡ _ _ (λ k. on-same (eqb k b) (siteOf r .zone k)) (λ i j. refl))
+        rw e (quiet-site (λ z. z) (rw e at f) ∙ site≡ _ _ refl (λ k. on-same (eqb k b) (siteOf r .zone k)) (λ i j. refl))
     request-site set false e f =
         let z = zoneAt (r .head) b in
         let d : z .deps < 2 ^ countOf (r .head) = subst (λ (z : Local). z .deps < 2 ^ countOf (r .head)) (zone-on r b (p .to)) (s .deps b (p .to)) in
@@ -221,9 +223,9 @@ module _ (r : Run) (w : WholeRun r) (s : SoundRun r) where
         (popped-site requested (targets b set z) (carried set z) (rw e at f)
         (λ i j e. off-targets (countOf (r .head)) b set i j z (s .most) (p .to) d e))
 
-    received-site : (x : Item) (rest : List Item) → allFree (r .channels) b (itemReceived a b x (zoneAt (r .head) b) .to) ≡ true
-        → receivedAs (itemReceived a b x (zoneAt (r .head) b)) ≡ takeS a b (x ∷ rest) (siteOf r)
-    received-site (message cars flag) rest f = quiet-site (received a cars flag) f
+    received-site : (x : Item) (rest : List Item) → allFree (r .channels) b (itemReceived (editionOf (r .head)) a b x (zoneAt (r .head) b) .to) ≡ true
+        → receivedAs (itemReceived (editionOf (r .head)) a b x (zoneAt (r .head) b)) ≡ takeS a b (x ∷ rest) (siteOf r)
+    received-site (message cars flag) rest f = quiet-site (receivedUnder (editionOf (r .head)) a cars flag) f
     received-site (request set) rest f =
         request-site set (isPermanent (siteOf r .zone b .checkpoint))
         (ap (λ (z : Local). isPermanent (z .checkpoint)) (sym (zone-on r b (p .to)))) f
@@ -276,7 +278,7 @@ none-at (suc n) (suc k) = none-at n k
 
 pub opened-site : (o : Opening) → Fitting o → siteOf (openedRun o) ≡ openS (openingOf o)
 unfolding openedRun
-opened-site o f = site≡ _ _ (λ k. zone k (ltb k (o .terms .count)) refl) (λ i j. channel i j (onSite (o .terms .count) i j))
+opened-site o f = site≡ _ _ refl (λ k. zone k (ltb k (o .terms .count)) refl) (λ i j. channel i j (onSite (o .terms .count) i j))
   where
     zone : (k : ℕ) (p : Bool) → ltb k (o .terms .count) ≡ p
         → cond p (zoneAt (openedHead o) k) (opened k 0) ≡ opened k (stockAt o k)

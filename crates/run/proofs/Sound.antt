@@ -14,7 +14,8 @@ use Rattle.rules.specs.Change.{on, join}
 use Rattle.rules.specs.Limits.{mostCars, places}
 use Rattle.rules.specs.Questions.{index}
 use Rattle.rules.specs.Sets.{has, nobody, only}
-use Rattle.rules.specs.Zone.{isPermanent, sent, received, started, requested, depsAfter, targets, carried}
+use Rattle.rules.specs.Edition.{isTraffic}
+use Rattle.rules.specs.Zone.{isPermanent, sent, sentUnder, received, receivedUnder, started, requested, depsAfter, targets, carried}
 use Rattle.rules.specs.Site.{Item, message, request, Site, Call, send, receive, start, popS, requestAllS, turnS, stepS, takeS}
 use Rattle.rules.specs.declared.Local.{Local}
 use Rattle.rules.specs.declared.Checkpoint.{Checkpoint}
@@ -25,7 +26,7 @@ use Rattle.channel.specs.Words.{setIn}
 use Rattle.channel.specs.Channels.{Whole, channelIndex, lenOf, isFree, pushed, popped, freeBelow, allFree, requestedAll}
 use Rattle.channel.specs.declared.Channels.{Channels}
 use Rattle.channel.proofs.View.{pop-whole, lens-pushed, lens-popped, requested-lens}
-use Rattle.run.specs.State.{setsWithin, isSound, countOf}
+use Rattle.run.specs.State.{setsWithin, isSound, termsOf, countOf}
 use Rattle.run.specs.Calls.{answer, channelsAfter, granted, actorIn}
 use Rattle.run.specs.Model.{siteOf}
 use Rattle.run.specs.Lists.{callOf, after}
@@ -47,7 +48,9 @@ use Rattle.run.specs.Opening.{openCall, openedRun, fallback}
 -- The rules: a call adds at most one own event to a zone.
 events-step : (c : Call) (s : Site) (k : ℕ) → stepS c s .zone k .events ≤ s .zone k .events + 1
 events-step (send a b cars) s k =
-    on-keeps (λ (z : Local). z .events ≤ s .zone k .events + 1) (eqb k a) (sent cars) (s .zone k) (λ h. omega arith) (omega arith)
+    on-keeps (λ (z : Local). z .events ≤ s .zone k .events + 1) (eqb k a) (sentUnder (s .edition) cars) (s .zone k)
+    (on-keeps (λ (z : Local). z .events ≤ s .zone k .events + 1) (isTraffic (s .edition) cars) (sent cars) (s .zone k) (λ h. omega arith))
+    (omega arith)
 events-step (receive a b) s k = go (s .channel a b)
   where
     turned : (set : ℕ) (t : Site) → t .zone k .events ≤ s .zone k .events + 1 → turnS b set t .zone k .events ≤ s .zone k .events + 1
@@ -56,7 +59,9 @@ events-step (receive a b) s k = go (s .channel a b)
     go : (xs : List Item) → takeS a b xs s .zone k .events ≤ s .zone k .events + 1
     go [] = omega arith
     go (message cars flag ∷ xs) =
-        on-keeps (λ (z : Local). z .events ≤ s .zone k .events + 1) (eqb k b) (received a cars flag) (s .zone k) (λ h. omega arith)
+        on-keeps (λ (z : Local). z .events ≤ s .zone k .events + 1) (eqb k b) (receivedUnder (s .edition) a cars flag) (s .zone k)
+        (on-keeps (λ (z : Local). z .events ≤ s .zone k .events + 1) (isTraffic (s .edition) cars) (received a cars flag) (s .zone k)
+        (λ h. omega arith))
         (omega arith)
     go (request set ∷ xs) =
         on-keeps (λ (t : Site). t .zone k .events ≤ s .zone k .events + 1) (not (isPermanent (s .zone b .checkpoint))) (turnS b set)
@@ -72,7 +77,9 @@ received-deps n from deps (Mutable s) flag h d = d
 received-deps n from deps (Permanent s) flag h d = d
 
 deps-step : (n : ℕ) (c : Call) (s : Site) (k : ℕ) → Sited n c → s .zone k .deps < 2 ^ n → stepS c s .zone k .deps < 2 ^ n
-deps-step n (send a b cars) s k p h = on-keeps (λ (z : Local). z .deps < 2 ^ n) (eqb k a) (sent cars) (s .zone k) (λ h. h) h
+deps-step n (send a b cars) s k p h =
+    on-keeps (λ (z : Local). z .deps < 2 ^ n) (eqb k a) (sentUnder (s .edition) cars) (s .zone k)
+    (on-keeps (λ (z : Local). z .deps < 2 ^ n) (isTraffic (s .edition) cars) (sent cars) (s .zone k) (λ h. h)) h
 deps-step n (receive a b) s k p h = go (s .channel a b)
   where
     turned : (set : ℕ) (t : Site) → t .zone k .deps < 2 ^ n → turnS b set t .zone k .deps < 2 ^ n
@@ -81,8 +88,9 @@ deps-step n (receive a b) s k p h = go (s .channel a b)
     go : (xs : List Item) → takeS a b xs s .zone k .deps < 2 ^ n
     go [] = h
     go (message cars flag ∷ xs) =
-        on-keeps (λ (z : Local). z .deps < 2 ^ n) (eqb k b) (received a cars flag) (s .zone k)
-        (received-deps n a (s .zone k .deps) (s .zone k .checkpoint) flag (p .from)) h
+        on-keeps (λ (z : Local). z .deps < 2 ^ n) (eqb k b) (receivedUnder (s .edition) a cars flag) (s .zone k)
+        (on-keeps (λ (z : Local). z .deps < 2 ^ n) (isTraffic (s .edition) cars) (received a cars flag) (s .zone k)
+        (received-deps n a (s .zone k .deps) (s .zone k .checkpoint) flag (p .from))) h
     go (request set ∷ xs) =
         on-keeps (λ (t : Site). t .zone k .deps < 2 ^ n) (not (isPermanent (s .zone b .checkpoint))) (turnS b set) (popS a b s)
         (turned set (popS a b s)) h
@@ -177,7 +185,7 @@ popped-lens l a b i j w ha hb hj h =
     (on-keeps (λ (n : ℕ). n ≤ places) (eqb i a && eqb j b) (λ n. n - 1) (lenOf l (channelIndex i j)) (λ h. omega arith) h)
 
 lens-step : (c : SiteCall) (r : Run) → WholeRun r → SoundRun r → Asks c r → (i j : ℕ) → onSite (countOf (r .head)) i j ≡ true
-    → lenOf (channelsAfter c (actorIn c r) (r .channels)) (channelIndex i j) ≤ places
+    → lenOf (channelsAfter c (termsOf (r .head)) (actorIn c r) (r .channels)) (channelIndex i j) ≤ places
 lens-step (Send from to cars) r w s (p, c, f) i j o =
     pushed-lens (r .channels) (index from) (index to) _ i j (w .channels) (omega (arith, p .from, s .most))
     (omega (arith, p .to, s .most)) f
@@ -203,6 +211,7 @@ granted-sound c r w t p =
     let cars =
     sym (cars-at (granted c r .run)) ∙ ap (λ (x : Answer). allCars (x .run)) (sym (p .result)) ∙ call-conserves c r w t ∙ cars-at r in
     record {
+      edition = s .edition;
       fewest = s .fewest;
       most = s .most;
       records = omega (arith, p .room);
@@ -234,6 +243,7 @@ opened-facts o f =
     let r = openedRun o in
     let q = opened-site o f in
     record {
+      edition = f .edition;
       fewest = f .fewest;
       most = f .most;
       records = omega arith;

@@ -10,7 +10,7 @@ use Rattle.channel.proofs.View.{push-whole, pop-whole, requested-whole}
 use Rattle.run.specs.Calls.{actor, answer, channelsAfter, granted, zoneAfter, actorIn}
 use Rattle.run.specs.Lists.{after}
 use Rattle.run.specs.Claims.{WholeRun}
-use Rattle.run.specs.State.{locals}
+use Rattle.run.specs.State.{locals, termsOf}
 use Rattle.run.specs.declared.Run.{Run}
 use Rattle.run.specs.declared.Answer.{Answer}
 use Rattle.run.proofs.Outcome.{Passed, Refused, outcome, Opened, NotOpened, open-outcome}
@@ -19,7 +19,7 @@ use Rattle.run.specs.declared.SiteCall.the-variants.{Receive, Send, Star
 use Rattle.run.specs.declared.Opening.{Opening}
 use Rattle.run.specs.Opening.{openCall, openedRun, fallback}
 
-channels-whole : (c : SiteCall) (r : Run) → Whole (r .channels) → Whole (channelsAfter c (actorIn c r) (r .channels))
+channels-whole : (c : SiteCall) (r : Run) → Whole (r .channels) → Whole (channelsAfter c (termsOf (r .head)) (actorIn c r) (r .channels))
 channels-whole (Send from to cars) r w = push-whole (r .channels) _ _ w
 channels-whole (Receive from to) r w =
     requested-whole (popped (r .channels) (channelIndex (index from) (index to))) _ _ _ (pop-whole (r .channels) _ w)
@@ -27,7 +27,7 @@ channels-whole (Start zone) r w = requested-whole (r .channels) _ _ _ w
 
 granted-whole : (c : SiteCall) (r : Run) → WholeRun r → WholeRun (granted c r .run)
 granted-whole c r w = record {
-  zones = length-set (locals (r .head)) (actor c) (zoneAfter c (actorIn c r) (r .channels)) ∙ w .zones;
+  zones = length-set (locals (r .head)) (actor c) (zoneAfter c (termsOf (r .head)) (actorIn c r) (r .channels)) ∙ w .zones;
   opening = w .opening;
   channels = channels-whole c r (w .channels);
   journal = length-set (r .journal) (r .head .records) _ ∙ w .journal;

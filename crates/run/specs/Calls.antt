@@ -8,7 +8,7 @@ use Rattle.rules.specs.Limits.{mostRecords}
 use Rattle.rules.specs.Questions.{Question, question, ask, isOn, index}
 use Rattle.rules.specs.Sets.{nobody}
 use Rattle.rules.specs.Site.{Item, message, request}
-use Rattle.rules.specs.Zone.{hasCheckpoint, sent, received}
+use Rattle.rules.specs.Zone.{hasCheckpoint, sentUnder, receivedUnder}
 use Rattle.rules.specs.declared.Local.{Local}
 use Rattle.local.specs.Requesting.{requestingAs, requestedBy, startedBy}
 use Rattle.local.specs.declared.Requesting.{Requesting}
@@ -16,11 +16,12 @@ use Rattle.channel.specs.Words.{itemOf, messageWord}
 use Rattle.channel.specs.Channels.{channelIndex, lenOf, isFree, pushed, popped, firstOf, allFree, requestedAll}
 use Rattle.channel.specs.declared.Channels.{Channels}
 use Rattle.run.specs.Layout.{sendRecord, receiveRecord, startRecord}
-use Rattle.run.specs.State.{runAs, countOf, zoneAt, putBack, isSound, hasStarted}
+use Rattle.run.specs.State.{runAs, termsOf, countOf, zoneAt, putBack, isSound, hasStarted}
 use Rattle.run.specs.declared.Run.{Run}
 use Rattle.run.specs.declared.Answer.{Answer}
 use Rattle.run.specs.declared.SiteCall.{SiteCall}
 use Rattle.run.specs.declared.SiteCall.the-variants.{Send, Receive, Start}
+use Rattle.run.specs.declared.Terms.{Terms}
 
 -- The index of the zone that acts in a call: the sender, the receiver, the zone that starts.
 abbrev pub actor : SiteCall → ℕ
@@ -41,39 +42,40 @@ isNamed count (Start zone) = isOn count zone
 abbrev pub hasRoom : Run → Bool
 hasRoom r = ltb (r .head .records) mostRecords
 
--- What the receipt of an item by the zone at index b, from the zone at index a, makes of the zone, with the requests that it sends.
-abbrev pub itemReceived : ℕ → ℕ → Item → Local → Requesting
-itemReceived a b (message cars flag) z = requestingAs (received a cars flag z) nobody nobody
-itemReceived a b (request set) z = requestedBy b set z
+-- What the receipt of an item by the zone at index b, from the zone at index a, makes of the zone in an edition, with the requests that
+-- it sends.
+abbrev pub itemReceived : ℕ → ℕ → ℕ → Item → Local → Requesting
+itemReceived edition a b (message cars flag) z = requestingAs (receivedUnder edition a cars flag z) nobody nobody
+itemReceived edition a b (request set) z = requestedBy b set z
 
 -- The same of the first item on the channel from a to b.
-abbrev pub firstReceived : ℕ → ℕ → Local → Channels → Requesting
-firstReceived a b z l = itemReceived a b (itemOf (firstOf l (channelIndex a b))) z
+abbrev pub firstReceived : Terms → ℕ → ℕ → Local → Channels → Requesting
+firstReceived t a b z l = itemReceived (t .edition) a b (itemOf (firstOf l (channelIndex a b))) z
 
--- What a call asks behind 1, 5 and 6: of the zone z that acts, of the channels, and whether a recording has been started. Hand-over:
--- 7, 8. Receipt: 9, 10. Start: 11, 10.
-abbrev pub ownQuestions : SiteCall → Local → Channels → Bool → List Question
-ownQuestions (Send from to cars) z l started =
+-- What a call asks behind 1, 5 and 6 on a site with terms t: of the zone z that acts, of the channels, and whether a recording has been
+-- started. Hand-over: 7, 8. Receipt: 9, 10. Start: 11, 10.
+abbrev pub ownQuestions : SiteCall → Terms → Local → Channels → Bool → List Question
+ownQuestions (Send from to cars) t z l started =
     question 7 (leb cars (z .stock)) ∷ question 8 (isFree l (channelIndex (index from) (index to))) ∷ []
-ownQuestions (Receive from to) z l started =
+ownQuestions (Receive from to) t z l started =
     question 9 (not (eqb (lenOf l (channelIndex (index from) (index to))) 0))
-    ∷ question 10 (allFree l (index to) (firstReceived (index from) (index to) z l .to))
+    ∷ question 10 (allFree l (index to) (firstReceived t (index from) (index to) z l .to))
     ∷ []
-ownQuestions (Start zone) z l started =
+ownQuestions (Start zone) t z l started =
     question 11 (not started) ∷ question 10 (allFree l (index zone) (startedBy (index zone) z .to)) ∷ []
 
 -- What an accepted call makes of the zone z that acts, and of the channels.
-abbrev pub zoneAfter : SiteCall → Local → Channels → Local
-zoneAfter (Send from to cars) z l = sent cars z
-zoneAfter (Receive from to) z l = firstReceived (index from) (index to) z l .local
-zoneAfter (Start zone) z l = startedBy (index zone) z .local
+abbrev pub zoneAfter : SiteCall → Terms → Local → Channels → Local
+zoneAfter (Send from to cars) t z l = sentUnder (t .edition) cars z
+zoneAfter (Receive from to) t z l = firstReceived t (index from) (index to) z l .local
+zoneAfter (Start zone) t z l = startedBy (index zone) z .local
 
-abbrev pub channelsAfter : SiteCall → Local → Channels → Channels
-channelsAfter (Send from to cars) z l = pushed l (channelIndex (index from) (index to)) (messageWord (hasCheckpoint (z .checkpoint)) cars)
-channelsAfter (Receive from to) z l =
-    let got = firstReceived (index from) (index to) z l in
+abbrev pub channelsAfter : SiteCall → Terms → Local → Channels → Channels
+channelsAfter (Send from to cars) t z l = pushed l (channelIndex (index from) (index to)) (messageWord (hasCheckpoint (z .checkpoint)) cars)
+channelsAfter (Receive from to) t z l =
+    let got = firstReceived t (index from) (index to) z l in
     requestedAll (popped l (channelIndex (index from) (index to))) (index to) (got .to) (got .carried)
-channelsAfter (Start zone) z l =
+channelsAfter (Start zone) t z l =
     let got = startedBy (index zone) z in
     requestedAll l (index zone) (got .to) (got .carried)
 
@@ -93,7 +95,7 @@ questions c r =
     question 1 (isSound r)
     ∷ question 5 (isNamed (countOf (r .head)) c)
     ∷ question 6 (hasRoom r)
-    ∷ ownQuestions c (actorIn c r) (r .channels) (hasStarted (r .head))
+    ∷ ownQuestions c (termsOf (r .head)) (actorIn c r) (r .channels) (hasStarted (r .head))
 
 -- "The refusal is the number"; a refused hand-over, receipt or start hands back the run unchanged.
 abbrev pub refused : Run → ℕ → Answer
@@ -108,7 +110,8 @@ accepted r at z l word = record {
 
 abbrev pub granted : SiteCall → Run → Answer
 granted c r =
-    accepted r (actor c) (zoneAfter c (actorIn c r) (r .channels)) (channelsAfter c (actorIn c r) (r .channels)) (recordOf c)
+    let t = termsOf (r .head) in
+    accepted r (actor c) (zoneAfter c t (actorIn c r) (r .channels)) (channelsAfter c t (actorIn c r) (r .channels)) (recordOf c)
 
 -- The answer of a call.
 unfoldable pub answer : SiteCall → Run → Answer

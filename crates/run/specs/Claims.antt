@@ -59,6 +59,10 @@ ownRefusals (Start zone) = 11 ∷ 10 ∷ []
 abbrev pub possibleAnswers : SiteCall → List ℕ
 possibleAnswers c = 0 ∷ 1 ∷ 5 ∷ 6 ∷ ownRefusals c
 
+-- The numbers of an opening's questions.
+abbrev pub openRefusals : List ℕ
+openRefusals = 15 ∷ 2 ∷ 3 ∷ 4 ∷ []
+
 -- The record words of the accepted calls of a list, in order.
 abbrev pub acceptedRecords : List SiteCall → Run → List ℕ
 acceptedRecords [] r = []

@@ -5,6 +5,7 @@ use Prim.Native.Nat.{ℕ}
 use lib.Dec.{leb, eqb}
 use lib.ListN.{length, getD, replicate}
 use Rattle.rules.specs.Below.{listBelow, sum}
+use Rattle.rules.specs.Edition.{firstEdition, isEdition}
 use Rattle.rules.specs.Limits.{fewestZones, mostZones, mostCars, mostRecords}
 use Rattle.rules.specs.Opening as rules
 use Rattle.rules.specs.Questions.{Question, question, ask, isCount}
@@ -19,10 +20,10 @@ use Rattle.run.specs.declared.Opening.{Opening}
 use Rattle.run.specs.declared.Run.{Run}
 use Rattle.run.specs.declared.Terms.{Terms}
 
-abbrev pub termsAs : ℕ → Terms
-termsAs count = record { count = count }
+abbrev pub termsAs : ℕ → ℕ → Terms
+termsAs edition count = record { edition = edition; count = count }
 
--- An opening of its terms and a list of stocks, which may have any length: questions 2 to 4 judge it.
+-- An opening of its terms and a list of stocks, which may have any length: questions 15 and 2 to 4 judge it.
 abbrev pub openingAs : Terms → List ℕ → Opening
 openingAs terms stocks = record { terms = terms; stocks = stocks }
 
@@ -32,7 +33,7 @@ stockAt o i = getD (o .stocks) i 0
 
 -- The same opening as the rules have it.
 abbrev pub openingOf : Opening → rules.Opening
-openingOf o = record { stocks = stockAt o }
+openingOf o = record { edition = o .terms .edition; stocks = stockAt o }
 
 -- The head of an opening: zones that the site does not have are kept as zones opened with stock 0.
 abbrev pub openedZones : Opening → List Local
@@ -51,17 +52,18 @@ firstRun h = runAs h noChannels (replicate mostRecords 0)
 unfoldable pub openedRun : Opening → Run
 openedRun o = firstRun (openedHead o)
 
--- "Open: 2, 3, 4."
+-- "Open: 2, 3, 4.", and "15, for the edition named, comes first in opening".
 abbrev pub openQuestions : Opening → List Question
 openQuestions o =
-    question 2 (isCount (o .terms .count))
+    question 15 (isEdition (o .terms .edition))
+    ∷ question 2 (isCount (o .terms .count))
     ∷ question 3 (eqb (length (o .stocks)) (o .terms .count))
     ∷ question 4 (leb (sum (o .stocks)) mostCars)
     ∷ []
 
--- "A refused opening or reading hands back, beside the number, a run of 2 zones with stock 0 and no records."
+-- "A refused opening or reading hands back, beside the number, a run of 2 zones with stock 0 and no records", which "has edition 1".
 abbrev pub fallback : Opening
-fallback = openingAs (termsAs fewestZones) (0 ∷ 0 ∷ [])
+fallback = openingAs (termsAs firstEdition fewestZones) (0 ∷ 0 ∷ [])
 
 abbrev pub unopened : ℕ → Answer
 unopened n = record { refusal = n; run = openedRun fallback }

@@ -5,6 +5,7 @@ use Prim.Native.Nat.{ℕ, _+_, _*_}
 use lib.Dec.{leb}
 use lib.ListN.{getD, set}
 use Rattle.rules.specs.Below.{allBelow, anyBelow, sumBelow}
+use Rattle.rules.specs.Edition.{isEdition}
 use Rattle.rules.specs.Limits.{mostCars, mostRecords, places}
 use Rattle.rules.specs.Questions.{isCount}
 use Rattle.rules.specs.Sets.{within}
@@ -32,9 +33,12 @@ headAs opening records zones = record { opening = opening; records = records; zo
 abbrev pub locals : Head → List Local
 locals h = h .zones
 
--- The terms and the zone count of a head.
+-- The terms, the edition and the zone count of a head.
 abbrev pub termsOf : Head → Terms
 termsOf h = h .opening .terms
+
+abbrev pub editionOf : Head → ℕ
+editionOf h = termsOf h .edition
 
 abbrev pub countOf : Head → ℕ
 countOf h = termsOf h .count
@@ -81,10 +85,11 @@ stocks h = sumBelow (countOf h) (λ i. zoneAt h i .stock)
 unfoldable pub carsOnChannels : ℕ → Channels → ℕ
 carsOnChannels count l = sumBelow (mostChannels) (λ k. cond (isChannel count k) (carsOf (itemsOn l k)) 0)
 
--- Question 1 over the parts that it looks at: neither saved values in checkpoints nor storage that the site does not have.
+-- Question 1 over the parts that it looks at, the edition with them ("Questions 1 and 15 allow the editions defined so far"), but neither
+-- saved values in checkpoints nor storage that the site does not have.
 unfoldable pub partsSound : Head → Channels → Bool
 partsSound h l =
-    isCount (countOf h) && leb (h .records) mostRecords && localsSound h && channelsSound (termsOf h) l
+    isEdition (editionOf h) && isCount (countOf h) && leb (h .records) mostRecords && localsSound h && channelsSound (termsOf h) l
     && leb (stocks h + carsOnChannels (countOf h) l) mostCars
 
 abbrev pub isSound : Run → Bool
