@@ -11,7 +11,7 @@ use lib.ListN.{set}
 use lib.Pow.{pow-mono}
 use Rattle.rules.specs.Limits.{mostRecords}
 use Rattle.rules.specs.Questions.{Question, question, ask, index, Among}
-use Rattle.rules.specs.Zone.{hasCheckpoint, sent}
+use Rattle.rules.specs.Zone.{hasCheckpoint, sentUnder}
 use Rattle.rules.specs.declared.Local.{Local}
 use Rattle.rules.proofs.AskLaws.{AllYes, numbers, not-among, ask-cases, ask-both}
 use Rattle.channel.specs.Words.{itemOf, carsIn, setIn, messageWord}
@@ -78,21 +78,21 @@ ready-fits terms records (Start zone) z l r e room =
     named-wider (terms .count) 8 (Start zone) (ready-high terms records (index zone) z l r) e
 
 -- The effect of a hand-over, of a receipt and of a start, question by question.
-module _ (from to cars : ℕ) (z : Local) (l : Channels) (started : Bool) where
+module _ (terms : Terms) (from to cars : ℕ) (z : Local) (l : Channels) (started : Bool) where
   pub send-7 : (o : Effect) → o ≡ unchanged 7 z → z .stock < cars
-      → record { effect = o; channels = l } ≡ ownEffect (Send from to cars) z l started
+      → record { effect = o; channels = l } ≡ ownEffect (Send from to cars) terms z l started
   unfolding ownEffect
   send-7 o g h = rw (g, lt-leb _ _ h)
 
   pub send-8 : (k : ℕ) (o : Effect) → k ≡ channelIndex (index from) (index to) → o ≡ unchanged 8 z → cars ≤ z .stock → 16 ≤ lenOf l k
-      → record { effect = o; channels = l } ≡ ownEffect (Send from to cars) z l started
+      → record { effect = o; channels = l } ≡ ownEffect (Send from to cars) terms z l started
   unfolding ownEffect
   send-8 k o e g covers h = rw (g, le-leb _ _ covers, le-ltb _ _ (subst (λ (n : ℕ). 16 ≤ lenOf l n) e h))
 
   -- Accepted: the message, with the flag of the sender's checkpoint, is pushed at the channel's index.
   pub send-0 : (k word : ℕ) (flag : Bool) (zone : Local) (after : Channels) → k ≡ channelIndex (index from) (index to) → cars ≤ z .stock
-      → lenOf l k < 16 → flag ≡ hasCheckpoint (z .checkpoint) → word ≡ messageWord flag cars → after ≡ pushed l k word → zone ≡ sent cars z
-      → record { effect = record { refusal = 0; zone = zone }; channels = after } ≡ ownEffect (Send from to cars) z l started
+      → lenOf l k < 16 → flag ≡ hasCheckpoint (z .checkpoint) → word ≡ messageWord flag cars → after ≡ pushed l k word → zone ≡ sentUnder (terms .edition) cars z
+      → record { effect = record { refusal = 0; zone = zone }; channels = after } ≡ ownEffect (Send from to cars) terms z l started
   unfolding ownEffect
   send-0 k word flag zone after e covers h f g p q = rw (q, p, g, f, e, le-leb _ _ covers, lt-ltb _ _ (subst (λ (n : ℕ). lenOf l n < 16) e h))
 
@@ -104,51 +104,51 @@ module _ (l : Channels) (from to full : ℕ) (e : full ≡ firstFull l from to) 
   pub none-full : full ≡ 0 → allFree l from to ≡ true
   none-full h = sym (all-free-none l from to) ∙ eq-eqb _ _ (sym e ∙ h)
 
-module _ (from to : ℕ) (z : Local) (l : Channels) (started : Bool) (k : ℕ) (e : k ≡ channelIndex (index from) (index to)) where
+module _ (terms : Terms) (from to : ℕ) (z : Local) (l : Channels) (started : Bool) (k : ℕ) (e : k ≡ channelIndex (index from) (index to)) where
   pub receive-9 : (o : Effect) → o ≡ unchanged 9 z → lenOf l k ≡ 0
-      → record { effect = o; channels = l } ≡ ownEffect (Receive from to) z l started
+      → record { effect = o; channels = l } ≡ ownEffect (Receive from to) terms z l started
   unfolding ownEffect
   receive-9 o g h = rw (g, eq-eqb _ _ (subst (λ (n : ℕ). lenOf l n ≡ 0) e h))
 
   -- The item that stands first makes `got` of the zone.
-  module _ (holds : lenOf l k ≢ 0) (got : Requesting) (takes : got ≡ itemReceived (index from) (index to) (itemOf (firstOf l k)) z) (full : ℕ)
+  module _ (holds : lenOf l k ≢ 0) (got : Requesting) (takes : got ≡ itemReceived (terms .edition) (index from) (index to) (itemOf (firstOf l k)) z) (full : ℕ)
       (search : full ≡ firstFull l (index to) (got .to)) where
-    targets-free : (b : Bool) → allFree l (index to) (got .to) ≡ b → allFree l (index to) (firstReceived (index from) (index to) z l .to) ≡ b
+    targets-free : (b : Bool) → allFree l (index to) (got .to) ≡ b → allFree l (index to) (firstReceived terms (index from) (index to) z l .to) ≡ b
     targets-free b q =
-        subst (λ (n : ℕ). allFree l (index to) (itemReceived (index from) (index to) (itemOf (firstOf l n)) z .to) ≡ b) e
+        subst (λ (n : ℕ). allFree l (index to) (itemReceived (terms .edition) (index from) (index to) (itemOf (firstOf l n)) z .to) ≡ b) e
         (subst (λ (g : Requesting). allFree l (index to) (g .to) ≡ b) takes q)
 
     here : lenOf l (channelIndex (index from) (index to)) ≢ 0
     here = subst (λ (n : ℕ). lenOf l n ≢ 0) e holds
 
     pub receive-10 : (o : Effect) → o ≡ unchanged 10 z → full ≢ 0
-        → record { effect = o; channels = l } ≡ ownEffect (Receive from to) z l started
+        → record { effect = o; channels = l } ≡ ownEffect (Receive from to) terms z l started
     unfolding ownEffect
     receive-10 o g h = rw (g, ne-eqb _ _ here, targets-free false (some-full l (index to) (got .to) full search h))
 
     -- Accepted: the item leaves its channel, and the requests join theirs.
     pub receive-0 : (popping after : Channels) → full ≡ 0 → popping ≡ popped l k
         → after ≡ requestedAll popping (index to) (got .to) (got .carried)
-        → record { effect = record { refusal = 0; zone = got .local }; channels = after } ≡ ownEffect (Receive from to) z l started
+        → record { effect = record { refusal = 0; zone = got .local }; channels = after } ≡ ownEffect (Receive from to) terms z l started
     unfolding ownEffect
     receive-0 popping after h p q = rw (q, p, takes, e, ne-eqb _ _ here, targets-free true (none-full l (index to) (got .to) full search h))
 
-module _ (zone : ℕ) (z : Local) (l : Channels) (started : Bool) where
+module _ (terms : Terms) (zone : ℕ) (z : Local) (l : Channels) (started : Bool) where
   pub start-11 : (o : Effect) → o ≡ unchanged 11 z → started ≡ true
-      → record { effect = o; channels = l } ≡ ownEffect (Start zone) z l started
+      → record { effect = o; channels = l } ≡ ownEffect (Start zone) terms z l started
   unfolding ownEffect
   start-11 o g h = rw (g, h)
 
   module _ (first : started ≡ false) (got : Requesting) (starts : got ≡ startedBy (index zone) z) (full : ℕ)
       (search : full ≡ firstFull l (index zone) (got .to)) where
-    pub start-10 : (o : Effect) → o ≡ unchanged 10 z → full ≢ 0 → record { effect = o; channels = l } ≡ ownEffect (Start zone) z l started
+    pub start-10 : (o : Effect) → o ≡ unchanged 10 z → full ≢ 0 → record { effect = o; channels = l } ≡ ownEffect (Start zone) terms z l started
     unfolding ownEffect
     start-10 o g h =
         rw (g, first, subst (λ (g : Requesting). allFree l (index zone) (g .to) ≡ false) starts (some-full l (index zone) (got .to) full search h))
 
     -- Accepted: the requests join their channels.
     pub start-0 : (after : Channels) → full ≡ 0 → after ≡ requestedAll l (index zone) (got .to) (got .carried)
-        → record { effect = record { refusal = 0; zone = got .local }; channels = after } ≡ ownEffect (Start zone) z l started
+        → record { effect = record { refusal = 0; zone = got .local }; channels = after } ≡ ownEffect (Start zone) terms z l started
     unfolding ownEffect
     start-0 after h q =
         rw (q, starts, first, subst (λ (g : Requesting). allFree l (index zone) (g .to) ≡ true) starts (none-full l (index zone) (got .to) full search h))
@@ -165,7 +165,7 @@ module _ (c : SiteCall) (terms : Terms) (records : ℕ) (z : Local) (l : Channel
     unfolding effect
     effect-6 o g h = rw (g, named, le-ltb _ _ h)
 
-    pub behind-6 : records < 1000 → ownEffect c z l started ≡ effect c terms records z l started
+    pub behind-6 : records < 1000 → ownEffect c terms z l started ≡ effect c terms records z l started
     unfolding effect ownEffect
     behind-6 h = rw (named, lt-ltb _ _ h)
 
@@ -175,7 +175,7 @@ module _ (h : Head) (terms : Terms) (records : ℕ) (c : SiteCall) (z : Local) (
   run = runAs h l journal
 
   abbrev further : List Question
-  further = question 5 (isNamed (terms .count) c) ∷ question 6 (ltb records mostRecords) ∷ ownQuestions c z l (hasStarted h)
+  further = question 5 (isNamed (terms .count) c) ∷ question 6 (ltb records mostRecords) ∷ ownQuestions c terms z l (hasStarted h)
 
   -- Behind 1 these questions decide.
   rest : answer c run ≡ ask further (refused run) (granted c run)
@@ -183,7 +183,7 @@ module _ (h : Head) (terms : Terms) (records : ℕ) (c : SiteCall) (z : Local) (
   rest = rw (← s .opened, ← s .number, ← s .acting, s .sound)
 
   abbrev granting : Effected
-  granting = record { effect = record { refusal = 0; zone = zoneAfter c z l }; channels = channelsAfter c z l }
+  granting = record { effect = record { refusal = 0; zone = zoneAfter c terms z l }; channels = channelsAfter c terms z l }
 
   abbrev denied : ℕ → Effected
   denied n = record { effect = unchanged n z; channels = l }
@@ -201,7 +201,7 @@ module _ (h : Head) (terms : Terms) (records : ℕ) (c : SiteCall) (z : Local) (
           ⊎ ((n : ℕ) × Among n (numbers further) × (ask further denied granting ≡ denied n) × (ask further (refused run) (granted c run) ≡ refused run n))
           → Together
       go (inl (p, q)) = inl (p, rest ∙ q)
-      go (inr (n, m, p, q)) = inr (n, not-among n 0 (numbers further) m (own-nonzero c z l (hasStarted h)), p, rest ∙ q)
+      go (inr (n, m, p, q)) = inr (n, not-among n 0 (numbers further) m (own-nonzero c terms z l (hasStarted h)), p, rest ∙ q)
 
   module _ (made : Effect) (items lens : List ℕ) (e : effectAs made items lens ≡ effect c terms records z l (hasStarted h)) where
     pub effect-refused : made .refusal ≢ 0 → record { refusal = made .refusal; run = runAs h (channelsAs items lens) journal } ≡ answer c run
@@ -220,7 +220,7 @@ module _ (h : Head) (terms : Terms) (records : ℕ) (c : SiteCall) (z : Local) (
             → (isNamed (terms .count) c ≡ true) × (records < 1000)
         go (inl (y, p)) = (y .0, ltb-true _ _ (y .1 .0))
         go (inr (n, m, p)) =
-            absurd (not-among n 0 (numbers further) m (own-nonzero c z l (hasStarted h)) (sym (ap (λ (x : Effected). x .effect .refusal) (e ∙ p)) ∙ d))
+            absurd (not-among n 0 (numbers further) m (own-nonzero c terms z l (hasStarted h)) (sym (ap (λ (x : Effected). x .effect .refusal) (e ∙ p)) ∙ d))
 
     -- The head after an accepted call, and its run with the call's record.
     abbrev after : Head
@@ -233,7 +233,7 @@ module _ (h : Head) (terms : Terms) (records : ℕ) (c : SiteCall) (z : Local) (
         go : Together → record { refusal = 0; run = runAs after (channelsAs items lens) (set journal records (recordOf c)) } ≡ answer c run
         go (inl (p, q)) =
             ap (λ (x : Effected). record { refusal = 0; run = runAs (putBack h (actor c) (x .effect .zone) (records + 1)) (x .channels) (set journal records (recordOf c)) }) (e ∙ p)
-            ∙ rw (← s .acting, ← s .number) (sym q)
+            ∙ rw (← s .opened, ← s .acting, ← s .number) (sym q)
         go (inr (n, k, p, q)) = absurd (k (sym (ap (λ (x : Effected). x .effect .refusal) (e ∙ p)) ∙ d))
 
 -- The parts of a head that go into a call on the zone that acts, which stands at index k.

@@ -25,15 +25,15 @@ abbrev pub unchanged : ℕ → Local → Effect
 unchanged n z = record { refusal = n; zone = z }
 
 -- What a list of questions leaves of a call: refused with the first number, all stays.
-abbrev pub outcomeOf : List Question → SiteCall → Local → Channels → Effected
-outcomeOf qs c z l =
+abbrev pub outcomeOf : List Question → SiteCall → Terms → Local → Channels → Effected
+outcomeOf qs c t z l =
     ask qs (λ n. record { effect = unchanged n z; channels = l })
-    (record { effect = record { refusal = 0; zone = zoneAfter c z l }; channels = channelsAfter c z l })
+    (record { effect = record { refusal = 0; zone = zoneAfter c t z l }; channels = channelsAfter c t z l })
 
 -- Behind 6, a call's own questions decide.
-unfoldable pub ownEffect : SiteCall → Local → Channels → Bool → Effected
-ownEffect c z l started = outcomeOf (ownQuestions c z l started) c z l
+unfoldable pub ownEffect : SiteCall → Terms → Local → Channels → Bool → Effected
+ownEffect c terms z l started = outcomeOf (ownQuestions c terms z l started) c terms z l
 
 unfoldable pub effect : SiteCall → Terms → ℕ → Local → Channels → Bool → Effected
 effect c terms records z l started =
-    outcomeOf (question 5 (isNamed (terms .count) c) ∷ question 6 (ltb records mostRecords) ∷ ownQuestions c z l started) c z l
+    outcomeOf (question 5 (isNamed (terms .count) c) ∷ question 6 (ltb records mostRecords) ∷ ownQuestions c terms z l started) c terms z l

@@ -103,7 +103,7 @@ returns-3 c = λ started.
     let p = c .before .before .before in
     let r = roomy p in
     let n = named r in
-    receive-9 _ _ _ _ started _ (p .channel-index .ensures .0) _ (c .no-effect3 .ensures) (c .before .if3 .taken)
+    receive-9 _ _ _ _ _ started _ (p .channel-index .ensures .0) _ (c .no-effect3 .ensures) (c .before .if3 .taken)
     ∙ behind-6 (told (start n)) _ _ _ _ started (is-named n) (r .if2 .left)
 
 mul-word : tie.Need-mul-word
@@ -144,7 +144,7 @@ returns-4 c = λ started.
     let p = indexed h in
     let r = roomy p in
     let n = named r in
-    receive-10 _ _ _ _ started _ (p .channel-index .ensures .0) (h .if3 .left) _ (t .take .ensures) _ (f .first-full .ensures _) _
+    receive-10 _ _ _ _ _ started _ (p .channel-index .ensures .0) (h .if3 .left) _ (t .take .ensures) _ (f .first-full .ensures _) _
     (c .no-effect4 .ensures) (c .before .if4 .taken)
     ∙ behind-6 (told (start n)) _ _ _ _ started (is-named n) (r .if2 .left)
 
@@ -168,7 +168,7 @@ returns-5 c = λ started.
     let p = indexed h in
     let r = roomy p in
     let n = named r in
-    receive-0 _ _ _ _ started _ (p .channel-index .ensures .0) (h .if3 .left) _ (t .take .ensures) _ (f .first-full .ensures _) _ _
+    receive-0 _ _ _ _ _ started _ (p .channel-index .ensures .0) (h .if3 .left) _ (t .take .ensures) _ (f .first-full .ensures _) _ _
     (i .if4 .left) (o .pop .ensures .1) (d .request-all .ensures)
     ∙ behind-6 (told (start n)) _ _ _ _ started (is-named n) (r .if2 .left)
 

@@ -71,7 +71,7 @@ returns-3 : tie.Need-returns-3
 returns-3 c = λ started.
     let r = c .before .before .before in
     let n = named r in
-    send-7 _ _ _ _ _ started _ (c .no-effect3 .ensures) (c .before .if3 .taken) ∙ behind-6 (told (start n)) _ _ _ _ started (is-named n) (r .if2 .left)
+    send-7 _ _ _ _ _ _ started _ (c .no-effect3 .ensures) (c .before .if3 .taken) ∙ behind-6 (told (start n)) _ _ _ _ started (is-named n) (r .if2 .left)
 
 sub-channel-index : tie.Need-sub-channel-index
 sub-channel-index c = pair-low 8 _ _ (fits (roomy c) .0) .0
@@ -99,7 +99,7 @@ returns-4 c = λ started.
     let p = indexed (c .before .before) in
     let r = roomy (covered p) in
     let n = named r in
-    send-8 _ _ _ _ _ started _ _ (p .channel-index .ensures .0) (c .no-effect4 .ensures) (covered p .if3 .left) (c .before .if4 .taken)
+    send-8 _ _ _ _ _ _ started _ _ (p .channel-index .ensures .0) (c .no-effect4 .ensures) (covered p .if3 .left) (c .before .if4 .taken)
     ∙ behind-6 (told (start n)) _ _ _ _ started (is-named n) (r .if2 .left)
 
 has-checkpoint-requires : tie.Need-has-checkpoint-requires
@@ -121,7 +121,7 @@ returns-5 c = λ started.
     let p = indexed (f .before) in
     let r = roomy (covered p) in
     let n = named r in
-    send-0 _ _ _ _ _ started _ _ _ _ _ (p .channel-index .ensures .0) (covered p .if3 .left) (f .if4 .left) (w .before .has-checkpoint .ensures)
+    send-0 _ _ _ _ _ _ started _ _ _ _ _ (p .channel-index .ensures .0) (covered p .if3 .left) (f .if4 .left) (w .before .has-checkpoint .ensures)
     (w .message-word .ensures) (c .before .push .ensures) (c .send .ensures)
     ∙ behind-6 (told (start n)) _ _ _ _ started (is-named n) (r .if2 .left)
 

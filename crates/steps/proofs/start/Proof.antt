@@ -68,7 +68,7 @@ returns-3 : tie.Need-returns-3
 returns-3 c =
     let r = c .before .before in
     let n = named r in
-    start-11 _ _ _ _ _ (c .no-effect3 .ensures) (c .before .if3 .taken) ∙ behind-6 (told (start n)) _ _ _ _ _ (is-named n) (r .if2 .left)
+    start-11 _ _ _ _ _ _ (c .no-effect3 .ensures) (c .before .if3 .taken) ∙ behind-6 (told (start n)) _ _ _ _ _ (is-named n) (r .if2 .left)
 
 sub-a : tie.Need-sub-a
 sub-a c = zone-sited 8 _ (fits (roomy c)) .0
@@ -91,7 +91,7 @@ returns-4 c =
     let b = begun f in
     let r = roomy (first b) in
     let n = named r in
-    start-10 _ _ _ _ (first b .if3 .left) _ (b .start .ensures) _ (f .first-full .ensures _) _ (c .no-effect4 .ensures) (c .before .if4 .taken)
+    start-10 _ _ _ _ _ (first b .if3 .left) _ (b .start .ensures) _ (f .first-full .ensures _) _ (c .no-effect4 .ensures) (c .before .if4 .taken)
     ∙ behind-6 (told (start n)) _ _ _ _ _ (is-named n) (r .if2 .left)
 
 cast-request-all : tie.Need-cast-request-all
@@ -108,7 +108,7 @@ returns-5 c =
     let b = begun f in
     let r = roomy (first b) in
     let n = named r in
-    start-0 _ _ _ _ (first b .if3 .left) _ (b .start .ensures) _ (f .first-full .ensures _) _ (i .if4 .left) (d .request-all .ensures)
+    start-0 _ _ _ _ _ (first b .if3 .left) _ (b .start .ensures) _ (f .first-full .ensures _) _ (i .if4 .left) (d .request-all .ensures)
     ∙ behind-6 (told (start n)) _ _ _ _ _ (is-named n) (r .if2 .left)
 
 pub start-spec : {M : Type 1} → statement M
