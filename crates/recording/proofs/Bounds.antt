@@ -10,7 +10,8 @@ use lib.ListN.{length, drop, getD, length-append, length-drop}
 use lib.Seq.{length-take-le}
 use borrow.Author.Tests.{eqb-true, ltb-true, ne-eqb}
 use Rattle.rules.specs.Change.{cons-if}
-use Rattle.rules.specs.Zone.{isPermanent, opened, saved, sent, received, checkpointAfter, started, requested, madePermanent}
+use Rattle.rules.specs.Edition.{isTraffic}
+use Rattle.rules.specs.Zone.{isPermanent, opened, saved, sent, sentUnder, received, receivedUnder, checkpointAfter, started, requested, madePermanent}
 use Rattle.rules.specs.Site.{Item, message, request, Site, Call, send, receive, start, popS, turnS, stepS, takeS, openS}
 use Rattle.rules.specs.Cut.{run, eventsOf, stockOf}
 use Rattle.rules.specs.declared.Local.{Local}
@@ -136,13 +137,17 @@ module _ (s : Site) (k m : ℕ) (now : s .zone k .stock ≤ m) (kept : savedStoc
   Few z = savedStock (z .checkpoint) ≤ m
 
   stock-step : (c : Call) → Few (stepS c s .zone k)
-  stock-step (send a b cars) = on-keeps Few (eqb k a) (sent cars) (s .zone k) (λ h. h) kept
+  stock-step (send a b cars) =
+      on-keeps Few (eqb k a) (sentUnder (s .edition) cars) (s .zone k)
+      (on-keeps Few (isTraffic (s .edition) cars) (sent cars) (s .zone k) (λ h. h)) kept
   stock-step (receive a b) = go (s .channel a b)
     where
       go : (xs : List Item) → Few (takeS a b xs s .zone k)
       go [] = kept
       go (message cars flag ∷ xs) =
-          on-keeps Few (eqb k b) (received a cars flag) (s .zone k) (stock-after (s .zone k .checkpoint) (saved (s .zone k)) flag m now) kept
+          on-keeps Few (eqb k b) (receivedUnder (s .edition) a cars flag) (s .zone k)
+          (on-keeps Few (isTraffic (s .edition) cars) (received a cars flag) (s .zone k)
+          (stock-after (s .zone k .checkpoint) (saved (s .zone k)) flag m now)) kept
       go (request set ∷ xs) =
           on-keeps (λ (t : Site). Few (t .zone k)) (not (isPermanent (s .zone b .checkpoint))) (turnS b set) (popS a b s)
           (λ h. on-keeps Few (eqb k b) requested (s .zone k) (stock-made (s .zone k .checkpoint) (saved (s .zone k)) m now) kept) kept

@@ -34,7 +34,7 @@ use Rattle.recording.specs.Call.{ruleCallsIn}
 use Rattle.recording.specs.Layout.{channelWords}
 use Rattle.recording.specs.InnerRecords.{isIn, sendsOn, takesOn, sentWords, takenCount, itemsAt}
 use Rattle.recording.proofs.Chain.{Chain, done, next, chain}
-use Rattle.recording.proofs.Moved.{eventsIn, actorOf, Quiet, Moved, sent-moved, start-quiet, received-moves, quiet-number, moved-number, insideRest, insideAll, quiet-inside, moved-inside}
+use Rattle.recording.proofs.Moved.{eventsIn, actorOf, Quiet, Moved, sent-moves, start-quiet, received-moves, quiet-number, moved-number, insideRest, insideAll, quiet-inside, moved-inside}
 use Rattle.run.specs.Opening.{openCall, openedRun, openingOf}
 use Rattle.run.specs.declared.SiteCall.{SiteCall}
 use Rattle.run.specs.declared.SiteCall.the-variants.{Send, Receive, Start}
@@ -150,7 +150,10 @@ module _ (i j : ℕ) where
     no-take word n (inl h) = rw (ne-eqb (word / 256) (64 + channelIndex i j) (λ e. omega arith))
     no-take word n (inr h) = rw (ne-eqb (word / 256) (64 + channelIndex i j) (λ e. omega arith))
 
-    -- A receipt of a request has the number 0, which is never inside.
+    -- A line check, its receipt and the receipt of a request have the number 0, which is never inside.
+    quiet-send : (word : ℕ) → sendsOn (channelIndex i j) sh word 0 ≡ false
+    quiet-send word = and-false (eqb (word / 256) (channelIndex i j))
+
     quiet-take : (word : ℕ) → takesOn (channelIndex i j) sh word 0 ≡ false
     quiet-take word = and-false (eqb (word / 256) (64 + channelIndex i j))
 
@@ -162,18 +165,28 @@ module _ (i j : ℕ) where
           ≡ cons-if (sendsOn (channelIndex i j) sh (recordOf c) (ordinalOf (WellFormed c) r)) (recordOf c) (sentBy (insideRest shown (callOf c) cs (siteOf r)))
 
       sends-first : (c : SiteCall) → Typed c → isAccepted c r ≡ true → Sends c
-      sends-first (Send from to cars) t e =
-          let a = index from in
-          let b = index to in
-          let m = sent-moved a b cars (siteOf r) in
-          let p = passed (Send from to cars) r e in
-          let few = parts r (p .sound) .most in
-          let number = number-is (Send from to cars) r w t e ∙ moved-number (send a b cars) (siteOf r) (hand a b cars) m in
-          rw (
-            number,
-            sends-hand a b cars (eventsIn (siteOf r) a) (omega (arith, p .asks .0 .from)) (omega (arith, p .asks .0 .to)) t,
-          )
-          (ap sentBy (moved-inside shown (send a b cars) cs (siteOf r) (hand a b cars) m) ∙ hand-sent a b cars _ _)
+      sends-first (Send from to cars) t e = go (sent-moves (index from) (index to) cars (siteOf r))
+        where
+          a : ℕ
+          a = index from
+
+          b : ℕ
+          b = index to
+
+          p : Passed (Send from to cars) r
+          p = passed (Send from to cars) r e
+
+          go : Quiet (send a b cars) (siteOf r) ⊎ Moved (send a b cars) (siteOf r) (hand a b cars) → Sends (Send from to cars)
+          go (inl q) =
+              rw (number-is (Send from to cars) r w t e ∙ quiet-number (send a b cars) (siteOf r) q, quiet-send (sendRecord a b cars))
+              (ap sentBy (quiet-inside shown (send a b cars) cs (siteOf r) q))
+          go (inr q) =
+              let few = parts r (p .sound) .most in
+              rw (
+                number-is (Send from to cars) r w t e ∙ moved-number (send a b cars) (siteOf r) (hand a b cars) q,
+                sends-hand a b cars (eventsIn (siteOf r) a) (omega (arith, p .asks .0 .from)) (omega (arith, p .asks .0 .to)) t,
+              )
+              (ap sentBy (moved-inside shown (send a b cars) cs (siteOf r) (hand a b cars) q) ∙ hand-sent a b cars _ _)
       sends-first (Receive from to) t e =
           rw (no-send (recordOf (Receive from to)) (ordinalOf (WellFormed (Receive from to)) r) (omega arith))
           (go (received-moves (index from) (index to) (siteOf r)))
@@ -200,14 +213,22 @@ module _ (i j : ℕ) where
 
       takes-first : (c : SiteCall) → Typed c → isAccepted c r ≡ true → Takes c
       takes-first (Send from to cars) t e =
-          let a = index from in
-          let b = index to in
-          let m = sent-moved a b cars (siteOf r) in
           let p = passed (Send from to cars) r e in
           let few = parts r (p .sound) .most in
           rw (no-take (sendRecord a b cars) (ordinalOf (WellFormed (Send from to cars)) r) (inl (omega (arith, p .asks .0 .from, p .asks .0 .to))))
-          (ap (takes i j) (moved-inside shown (send a b cars) cs (siteOf r) (hand a b cars) m)
-          ∙ hand-taken a b cars (isInside shown (eventsIn (siteOf r)) (hand a b cars)) (insideRest shown (send a b cars) cs (siteOf r)))
+          (go (sent-moves a b cars (siteOf r)))
+        where
+          a : ℕ
+          a = index from
+
+          b : ℕ
+          b = index to
+
+          go : Quiet (send a b cars) (siteOf r) ⊎ Moved (send a b cars) (siteOf r) (hand a b cars)
+              → takes i j (insideAll shown (send a b cars) cs (siteOf r)) ≡ takes i j (insideRest shown (send a b cars) cs (siteOf r))
+          go (inl q) = ap (takes i j) (quiet-inside shown (send a b cars) cs (siteOf r) q)
+          go (inr q) = ap (takes i j) (moved-inside shown (send a b cars) cs (siteOf r) (hand a b cars) q)
+              ∙ hand-taken a b cars (isInside shown (eventsIn (siteOf r)) (hand a b cars)) (insideRest shown (send a b cars) cs (siteOf r))
       takes-first (Receive from to) t e = go (received-moves (index from) (index to) (siteOf r))
         where
           a : ℕ

@@ -1,6 +1,7 @@
--- What a call adds to the own events of zones: one for the zone whose move it is, and nothing where it is no move.
+-- What a call adds to the own events of zones: one for the zone whose move it is, and nothing where it is no move, as a line check or its
+-- receipt.
 use mathlib.Core.Path.{_≡_, refl, sym, _∙_, ap}
-use mathlib.Core.Bool.{Bool, not}
+use mathlib.Core.Bool.{Bool, true, false, not}
 use mathlib.Core.Logic.{_⊎_, inl, inr}
 use mathlib.Core.List.{List, [], _∷_, _++_}
 use Prim.Native.Nat.{ℕ, suc}
@@ -8,13 +9,14 @@ use native.Mathlib.Numerals.{add-one}
 use native.Mathlib.Omega.{arith}
 use lib.Dec.{eqb}
 use borrow.Author.Tests.{ne-eqb}
-use Rattle.rules.specs.Change.{cons-if}
+use Rattle.rules.specs.Change.{on, cons-if}
+use Rattle.rules.specs.Edition.{isTraffic}
 use Rattle.rules.specs.Zone.{isPermanent, sent, received, started, requested}
 use Rattle.rules.specs.Site.{Item, message, request, Site, Call, send, receive, start, popS, turnS, stepS, takeS}
 use Rattle.rules.specs.Park.{Move, hand, take, owner, isInside, counted, insideFrom}
-use Rattle.rules.specs.Cut.{moveOf, moves}
+use Rattle.rules.specs.Cut.{taking, moveOf, moves}
 use Rattle.rules.specs.declared.Local.{Local}
-use Rattle.rules.proofs.Guarded.{on-same, on-map}
+use Rattle.rules.proofs.Guarded.{on-same, on-map, on-still}
 use Rattle.rules.proofs.Tests.{eqb-refl}
 use Rattle.journal.specs.InnerOrdinals.{ordinalBy}
 
@@ -38,12 +40,22 @@ pub record Moved (c : Call) (s : Site) (m : Move) : Type 0 where
   pub by : owner m ≡ actorOf c
   pub more : (k : ℕ) → eventsIn (stepS c s) k ≡ counted (eventsIn s) m k
 
-pub sent-moved : (a b cars : ℕ) (s : Site) → Moved (send a b cars) s (hand a b cars)
-sent-moved a b cars s = record {
-  one = refl;
-  by = refl;
-  more = λ k. on-map (λ (z : Local). z .events) (eqb k a) (sent cars) suc (s .zone k) (add-one _);
-}
+pub sent-moves : (a b cars : ℕ) (s : Site) → Quiet (send a b cars) s ⊎ Moved (send a b cars) s (hand a b cars)
+sent-moves a b cars s = go (isTraffic (s .edition) cars) refl
+  where
+    sentIf : ℕ → Bool → ℕ
+    sentIf k p = (on (eqb k a) (on p (sent cars)) (s .zone k)) .events
+
+    go : (p : Bool) → isTraffic (s .edition) cars ≡ p → Quiet (send a b cars) s ⊎ Moved (send a b cars) s (hand a b cars)
+    go true e = inr (record {
+      one = ap (λ (p : Bool). cons-if p (hand a b cars) []) e;
+      by = refl;
+      more = λ k. ap (sentIf k) e ∙ on-map (λ (z : Local). z .events) (eqb k a) (sent cars) suc (s .zone k) (add-one _);
+    })
+    go false e = inl (record {
+      none = ap (λ (p : Bool). cons-if p (hand a b cars) []) e;
+      same = λ k. ap (sentIf k) e ∙ ap (λ (z : Local). z .events) (on-still (eqb k a) (sent cars) (s .zone k));
+    })
 
 pub start-quiet : (a : ℕ) (s : Site) → Quiet (start a) s
 start-quiet a s = record {
@@ -54,15 +66,29 @@ start-quiet a s = record {
 pub received-moves : (a b : ℕ) (s : Site) → Quiet (receive a b) s ⊎ Moved (receive a b) s (take a b)
 received-moves a b s = go (s .channel a b) refl
   where
-    got : (cars : ℕ) (flag : Bool) (xs : List Item) (k : ℕ) → eventsIn (takeS a b (message cars flag ∷ xs) s) k ≡ counted (eventsIn s) (take a b) k
-    got cars flag xs k = on-map (λ (z : Local). z .events) (eqb k b) (received a cars flag) suc (s .zone k) (add-one _)
+    gotIf : ℕ → Bool → ℕ → Bool → ℕ
+    gotIf cars flag k p = (on (eqb k b) (on p (received a cars flag)) (s .zone k)) .events
+
+    got : (cars : ℕ) (flag : Bool) (xs : List Item) → s .channel a b ≡ message cars flag ∷ xs → (p : Bool) → isTraffic (s .edition) cars ≡ p
+        → Quiet (receive a b) s ⊎ Moved (receive a b) s (take a b)
+    got cars flag xs e true t = inr (record {
+      one = ap (taking (s .edition) a b) e ∙ ap (λ (p : Bool). cons-if p (take a b) []) t;
+      by = refl;
+      more = λ k. ap (λ (l : List Item). eventsIn (takeS a b l s) k) e ∙ ap (gotIf cars flag k) t
+          ∙ on-map (λ (z : Local). z .events) (eqb k b) (received a cars flag) suc (s .zone k) (add-one _);
+    })
+    got cars flag xs e false t = inl (record {
+      none = ap (taking (s .edition) a b) e ∙ ap (λ (p : Bool). cons-if p (take a b) []) t;
+      same = λ k. ap (λ (l : List Item). eventsIn (takeS a b l s) k) e ∙ ap (gotIf cars flag k) t
+          ∙ ap (λ (z : Local). z .events) (on-still (eqb k b) (received a cars flag) (s .zone k));
+    })
 
     turned : (set k : ℕ) (t : Site) → eventsIn (turnS b set t) k ≡ eventsIn t k
     turned set k t = on-same (λ (z : Local). z .events) (eqb k b) requested (t .zone k) refl
 
     go : (xs : List Item) → s .channel a b ≡ xs → Quiet (receive a b) s ⊎ Moved (receive a b) s (take a b)
     go [] e = inl (record { none = rw e; same = λ k. rw e })
-    go (message cars flag ∷ xs) e = inr (record { one = rw e; by = refl; more = λ k. rw e (got cars flag xs k) })
+    go (message cars flag ∷ xs) e = got cars flag xs e (isTraffic (s .edition) cars) refl
     go (request set ∷ xs) e =
         inl (record {
           none = rw e;

@@ -14,6 +14,7 @@ use Rattle.rules.specs.Change.{cons-if}
 use Rattle.rules.specs.Zone.{isPermanent}
 use Rattle.rules.specs.Site.{Item, message, request, Site, Call, send, receive, start, stepS}
 use Rattle.rules.specs.Park.{Move, hand, take, counted, isInside, insideFrom, inside, hands, takes}
+use Rattle.rules.specs.Edition.{isTraffic}
 use Rattle.rules.specs.Cut.{Snapshot, Cut, run, moves, taking, eventsOf, stockOf}
 use Rattle.rules.proofs.Consistency.{consistent}
 use Rattle.rules.proofs.Lists.{All}
@@ -267,14 +268,20 @@ module _ (count i j : ℕ) (most : count ≤ 8) (off : onSite count i j ≡ fals
       go true q = q
       go false q = q
 
+  elsewhere-if : (p : Bool) (m : Move) (ms : List Move) → Elsewhere m → All Elsewhere ms → All Elsewhere (cons-if p m [] ++ ms)
+  elsewhere-if true m ms h q = (h, q)
+  elsewhere-if false m ms h q = q
+
   moves-elsewhere : (cs : List Call) (s : Site) → All (Sited count) cs → All Elsewhere (moves cs s)
   moves-elsewhere [] s h = tt
-  moves-elsewhere (send a b cars ∷ cs) s h = (elsewhere a b (h .0) (eqb i a && eqb j b) refl, moves-elsewhere cs (stepS (send a b cars) s) (h .1))
+  moves-elsewhere (send a b cars ∷ cs) s h =
+      elsewhere-if (isTraffic (s .edition) cars) (hand a b cars) _ (elsewhere a b (h .0) (eqb i a && eqb j b) refl)
+      (moves-elsewhere cs (stepS (send a b cars) s) (h .1))
   moves-elsewhere (receive a b ∷ cs) s h = go (s .channel a b) (moves-elsewhere cs (stepS (receive a b) s) (h .1))
     where
-      go : (xs : List Item) → All Elsewhere (moves cs (stepS (receive a b) s)) → All Elsewhere (taking a b xs ++ moves cs (stepS (receive a b) s))
+      go : (xs : List Item) → All Elsewhere (moves cs (stepS (receive a b) s)) → All Elsewhere (taking (s .edition) a b xs ++ moves cs (stepS (receive a b) s))
       go [] q = q
-      go (message cars flag ∷ xs) q = (tt, q)
+      go (message cars flag ∷ xs) q = elsewhere-if (isTraffic (s .edition) cars) (take a b) _ tt q
       go (request set ∷ xs) q = q
   moves-elsewhere (start a ∷ cs) s h = moves-elsewhere cs (stepS (start a) s) (h .1)
 
