@@ -71,6 +71,7 @@ module _ (r : Run) (w : WholeRun r) (e : isReplayed r ≡ true) where
 
   pub fitting : Fitting (r .head) (wordsAt r) ordinalsAt
   fitting = record {
+    edition = run-sound r w e .edition;
     fewest = omega (arith, run-sound r w e .fewest);
     most = run-sound r w e .most;
     events = λ i h. omega (arith, events-few r w e i, events-are r w e i h);

@@ -7,11 +7,12 @@ use lib.Dec.{ltb, leb}
 use lib.ListN.{length, getD, take}
 use Rattle.rules.specs.Below.{listBelow}
 use Rattle.rules.specs.Cut.{eventsOf, stockOf}
+use Rattle.rules.specs.Edition.{isEdition}
 use Rattle.rules.specs.Limits.{mostZones, mostRecords}
 use Rattle.rules.specs.Questions.{question, ask}
 use Rattle.rules.specs.Zone.{isPermanent}
 use Rattle.rules.specs.declared.Checkpoint.{Checkpoint}
-use Rattle.run.specs.State.{zoneAt, termsOf, countOf}
+use Rattle.run.specs.State.{zoneAt, termsOf, editionOf, countOf}
 use Rattle.journal.specs.Format.{headerOf, openedWith, recordWords}
 use Rattle.journal.specs.Writing.{Output, refusedOutput, writtenOutput, isReplayed}
 use Rattle.recording.specs.Layout.{permanentWeight, joinBelow}
@@ -49,6 +50,7 @@ recordedBytes h ws ns = wordsBytes (recordedWords h ws ns)
 
 -- What holds of a run that question 1 passes, so that its fields fit the words.
 pub record Fitting (h : Head) (ws ns : List ℕ) : Type 0 where
+  pub edition : isEdition (editionOf h) ≡ true
   pub fewest : 1 ≤ countOf h
   pub most : countOf h ≤ mostZones
   pub events : (i : ℕ) → i < countOf h → eventsOf (zoneAt h i .checkpoint) ≤ mostRecords

@@ -5,6 +5,7 @@ use Prim.Native.Nat.{ℕ, _+_, _*_, _-_}
 use native.Mathlib.Omega.{arith}
 use lib.ListN.{length, length-take, length-drop}
 use borrow.Rule.Slice.PartMut.{putMid}
+use Rattle.rules.proofs.Editions.{edition-range}
 use Rattle.words.specs.InnerWrote.{Wrote}
 use Rattle.run.specs.State.{termsOf, countOf}
 use Rattle.journal.specs.Format.{headerOf}
@@ -60,7 +61,9 @@ module _ (c : tie.After-slice-known3) where
   same = let h = size in wrote-length front (omega (arith, h, at-start .pre .7))
 
 header-requires : tie.Need-header-requires
-header-requires c κs = search needs
+header-requires c κs =
+    let p = named (c .before) .pre in
+    (omega (arith, edition-range _ (p .8) .1), p .0, p .1, omega (arith, p .5))
 
 write-word-requires : tie.Need-write-word-requires
 write-word-requires c κs = search needs

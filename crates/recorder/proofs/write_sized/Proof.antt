@@ -81,7 +81,7 @@ write-all-requires : tie.Need-write-all-requires
 write-all-requires c κs =
     let b = c .before .before .before in
     let p = start (events b) .pre in
-    (p .fewest, p .most, p .events, p .numbers, counted-of (count b .counted .ensures), few b, number-is b, c .before .before .if1 .left)
+    (p .fewest, p .most, p .events, p .numbers, counted-of (count b .counted .ensures), few b, number-is b, c .before .before .if1 .left, p .edition)
 
 same-length : tie.Need-same-length
 same-length c = search needs
