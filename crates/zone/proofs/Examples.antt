@@ -7,6 +7,7 @@ use Rattle.rules.specs.declared.Saved.{Saved}
 use Rattle.rules.specs.declared.Checkpoint.{Checkpoint}
 use Rattle.rules.specs.declared.Checkpoint.the-variants.{None, Mutable, Permanent}
 use Rattle.local.specs.Requesting.{requestedBy, startedBy}
+use Rattle.rules.specs.Edition.{firstEdition, isEdition, isTraffic}
 use Rattle.rules.specs.Questions.{isCount, isOn}
 use Rattle.zone.specs.Zone.{
   isOther,
@@ -38,10 +39,21 @@ abbrev pub expectations : List Row → List Reply
 expectations [] = []
 expectations (r ∷ rs) = r .expected ∷ expectations rs
 
--- A zone: its number, the zone count, its stock, dependency set, own events and checkpoint.
+-- A zone: its edition, its number, the zone count, its stock, dependency set, own events and checkpoint.
+abbrev pub zoneIn : ℕ → ℕ → ℕ → ℕ → ℕ → ℕ → Checkpoint → Zone
+zoneIn edition number count stock deps events checkpoint = record {
+  edition = edition;
+  number = number;
+  count = count;
+  stock = stock;
+  deps = deps;
+  events = events;
+  checkpoint = checkpoint;
+}
+
+-- One of edition 1.
 abbrev pub zone : ℕ → ℕ → ℕ → ℕ → ℕ → Checkpoint → Zone
-zone number count stock deps events checkpoint =
-    record { number = number; count = count; stock = stock; deps = deps; events = events; checkpoint = checkpoint }
+zone = zoneIn firstEdition
 
 abbrev pub saved : ℕ → ℕ → Saved
 saved stock events = record { stock = stock; events = events }
@@ -60,13 +72,13 @@ gives s n z flag to carried = record {
 abbrev pub table : List Row
 table =
     -- 1, 2, 8 and 9 zones.
-    opens (openZone 1 1 5) 2 (zone 1 2 0 1 0 None)
-    ∷ opens (openZone 2 1 5) 0 (zone 1 2 5 1 0 None)
-    ∷ opens (openZone 8 8 65535) 0 (zone 8 8 65535 128 0 None)
-    ∷ opens (openZone 9 1 5) 2 (zone 1 2 0 1 0 None)
+    opens (openZone firstEdition 1 1 5) 2 (zone 1 2 0 1 0 None)
+    ∷ opens (openZone firstEdition 2 1 5) 0 (zone 1 2 5 1 0 None)
+    ∷ opens (openZone firstEdition 8 8 65535) 0 (zone 8 8 65535 128 0 None)
+    ∷ opens (openZone firstEdition 9 1 5) 2 (zone 1 2 0 1 0 None)
     -- A zone whose number is not on the site.
-    ∷ opens (openZone 3 0 5) 5 (zone 1 2 0 1 0 None)
-    ∷ opens (openZone 3 4 5) 5 (zone 1 2 0 1 0 None)
+    ∷ opens (openZone firstEdition 3 0 5) 5 (zone 1 2 0 1 0 None)
+    ∷ opens (openZone firstEdition 3 4 5) 5 (zone 1 2 0 1 0 None)
     -- Case B. Zone 1, which heard of zone 2, starts: it sends zone 2 a request, carrying {1, 2}; then it sends 2 cars, flagged.
     ∷ gives (startStep (zone 1 3 11 3 1 None)) 0 (zone 1 3 11 3 1 (Permanent (saved 11 1))) false 2 3
     ∷ gives (sendStep (zone 1 3 11 3 1 (Permanent (saved 11 1))) 3 2) 0 (zone 1 3 9 3 2 (Permanent (saved 11 1))) true 0 0
@@ -89,12 +101,33 @@ table =
     ∷ gives (sendStep (zone 1 2 4 1 1000 None) 2 1) 6 (zone 1 2 4 1 1000 None) false 0 0
     ∷ gives (receiveStep (zone 1 2 4 1 999 None) 2 1 false) 0 (zone 1 2 5 3 1000 None) false 0 0
     ∷ gives (receiveStep (zone 1 2 5 3 1000 None) 2 1 false) 6 (zone 1 2 5 3 1000 None) false 0 0
-    -- A message of 0 cars is treated as any other: it adds to the dependency set, or makes a mutable checkpoint.
+    -- In edition 1 a message of 0 cars is treated as any other: it adds to the dependency set, or makes a mutable checkpoint.
     ∷ gives (receiveStep (zone 2 3 8 2 1 None) 3 0 false) 0 (zone 2 3 8 6 2 None) false 0 0
     ∷ gives (receiveStep (zone 2 3 8 2 1 None) 3 0 true) 0 (zone 2 3 8 2 2 (Mutable (saved 8 1))) false 0 0
+    -- The editions defined are 1 and 2; 15 is asked first, and a refused opening hands back edition 1.
+    ∷ opens (openZone 0 2 1 5) 15 (zone 1 2 0 1 0 None)
+    ∷ opens (openZone 2 2 1 5) 0 (zoneIn 2 1 2 5 1 0 None)
+    ∷ opens (openZone 3 1 4 5) 15 (zone 1 2 0 1 0 None)
+    ∷ opens (openZone 2 9 1 5) 2 (zone 1 2 0 1 0 None)
+    ∷ opens (openZone 2 3 4 5) 5 (zone 1 2 0 1 0 None)
+    -- A zone of an edition that is not defined meets 1.
+    ∷ gives (startStep (zoneIn 0 1 2 5 1 0 None)) 1 (zoneIn 0 1 2 5 1 0 None) false 0 0
+    ∷ gives (startStep (zoneIn 3 1 2 5 1 0 None)) 1 (zoneIn 3 1 2 5 1 0 None) false 0 0
+    -- In edition 2 a message of 0 cars is a line check: sent, flagged by a marked sender as ever, and received with either flag, it leaves
+    -- the zone as it was; the questions are the same, so that behind own event 1,000 it meets 6.
+    ∷ gives (sendStep (zoneIn 2 1 2 5 1 3 None) 2 0) 0 (zoneIn 2 1 2 5 1 3 None) false 0 0
+    ∷ gives (sendStep (zoneIn 2 1 2 5 1 3 (Permanent (saved 5 3))) 2 0) 0 (zoneIn 2 1 2 5 1 3 (Permanent (saved 5 3))) true 0 0
+    ∷ gives (receiveStep (zoneIn 2 2 3 8 2 1 None) 3 0 false) 0 (zoneIn 2 2 3 8 2 1 None) false 0 0
+    ∷ gives (receiveStep (zoneIn 2 2 3 8 2 1 None) 3 0 true) 0 (zoneIn 2 2 3 8 2 1 None) false 0 0
+    ∷ gives (sendStep (zoneIn 2 1 2 5 1 1000 None) 2 0) 6 (zoneIn 2 1 2 5 1 1000 None) false 0 0
+    ∷ gives (receiveStep (zoneIn 2 1 2 5 1 1000 None) 2 0 false) 6 (zoneIn 2 1 2 5 1 1000 None) false 0 0
+    -- One with cars is what it was.
+    ∷ gives (sendStep (zoneIn 2 1 2 5 1 3 None) 2 1) 0 (zoneIn 2 1 2 4 1 4 None) false 0 0
+    ∷ gives (receiveStep (zoneIn 2 2 3 8 2 1 None) 3 1 false) 0 (zoneIn 2 2 3 9 6 2 None) false 0 0
+    ∷ gives (receiveStep (zoneIn 2 2 3 8 2 1 None) 3 1 true) 0 (zoneIn 2 2 3 9 2 2 (Mutable (saved 8 1))) false 0 0
     ∷ []
 
 -- The two sides of every row are equal.
 pub edges : answers table ≡ expectations table
-unfolding isCount isOn isOther isZoneSound openZone sendStep receiveStep requestStep startStep requestedBy startedBy
+unfolding isEdition isTraffic isCount isOn isOther isZoneSound openZone sendStep receiveStep requestStep startStep requestedBy startedBy
 edges = refl

@@ -1,12 +1,13 @@
 -- What the zone part's tests say of numbers, and a call's negated test of its callee's meaning.
 use mathlib.Core.Path.{_≡_}
-use mathlib.Core.Bool.{true, not, _&&_, and-eq-true-iff}
+use mathlib.Core.Bool.{true, not, _&&_}
 use Prim.Native.Nat.{ℕ, _≤_}
 use native.Mathlib.Omega.{arith}
-use lib.Dec.{eqb, leb}
-use Rattle.rules.specs.Sets.{within}
+use lib.Dec.{eqb}
+use Rattle.rules.specs.Edition.{isEdition}
 use Rattle.rules.specs.Questions.{isCount, isOn}
 use Rattle.rules.proofs.QuestionLaws.{count-high, on-low, on-high}
+use Rattle.rules.proofs.Tests.{and-left, and-right}
 use Rattle.zone.specs.Zone.{isOther, isZoneSound}
 use Rattle.zone.specs.declared.Zone.{Zone}
 
@@ -20,12 +21,11 @@ on-site count k h g =
 sound-count : (z : Zone) → isZoneSound z ≡ true → (isCount (z .count) ≡ true) × (isOn (z .count) (z .number) ≡ true)
 unfolding isZoneSound
 sound-count z h =
+    let p = isEdition (z .edition) in
     let a = isCount (z .count) in
     let b = isOn (z .count) (z .number) in
-    let d = within (z .deps) (z .count) in
-    let e = leb (z .stock) 65535 in
-    let g = and-eq-true-iff (a && b && d && e) (leb (z .events) 1000) .0 h .0 in
-    and-eq-true-iff a b .0 (and-eq-true-iff (a && b) d .0 (and-eq-true-iff (a && b && d) e .0 g .0) .0)
+    let g = and-left (p && a && b) _ (and-left _ _ (and-left _ _ h)) in
+    (and-right p a (and-left (p && a) b g), and-right (p && a) b g)
 
 -- The number of a sound zone, and that of another zone of its site.
 pub own-number : (z : Zone) → isZoneSound z ≡ true → (1 ≤ z .number) × (z .number ≤ 8)
@@ -34,4 +34,4 @@ own-number z h = on-site _ _ (sound-count z h .0) (sound-count z h .1)
 pub other-number : (z : Zone) (k : ℕ) → isZoneSound z ≡ true → isOther z k ≡ true → (1 ≤ k) × (k ≤ 8)
 unfolding isOther
 other-number z k h g =
-    on-site _ _ (sound-count z h .0) (and-eq-true-iff (isOn (z .count) k) (not (eqb k (z .number))) .0 g .0)
+    on-site _ _ (sound-count z h .0) (and-left (isOn (z .count) k) (not (eqb k (z .number))) g)

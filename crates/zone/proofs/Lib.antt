@@ -1,3 +1,5 @@
 pub mod Laws
+pub mod Asks
 pub mod Examples
 pub mod Targets
+pub mod Checks

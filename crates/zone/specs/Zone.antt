@@ -4,10 +4,11 @@ use mathlib.Core.List.{[], _∷_}
 use Prim.Native.Nat.{ℕ, _+_}
 use lib.Dec.{leb, ltb, eqb}
 use lib.Count.{trailingZeros}
+use Rattle.rules.specs.Edition.{firstEdition, isEdition}
 use Rattle.rules.specs.Limits.{mostZones, mostCars, mostRecords}
 use Rattle.rules.specs.Questions.{question, ask, index, isCount, isOn}
 use Rattle.rules.specs.Sets.{nobody, within}
-use Rattle.rules.specs.Zone.{hasCheckpoint, opened, sent, received}
+use Rattle.rules.specs.Zone.{hasCheckpoint, opened, sentUnder, receivedUnder}
 use Rattle.rules.specs.declared.Local.{Local}
 use Rattle.local.specs.Requesting.{requestedBy, startedBy}
 use Rattle.local.specs.declared.Requesting.{Requesting}
@@ -21,6 +22,7 @@ localOf z = record { stock = z .stock; deps = z .deps; events = z .events; check
 
 abbrev pub withLocal : Zone → Local → Zone
 withLocal z l = record {
+  edition = z .edition;
   number = z .number;
   count = z .count;
   stock = l .stock;
@@ -34,27 +36,38 @@ unfoldable pub isOther : Zone → ℕ → Bool
 isOther z zone = isOn (z .count) zone && not (eqb zone (z .number))
 
 -- Question 1: "Its state is sound when zone number and count are valid, its heard set names only zones of the site, the stock is at
--- most 65,535 and own events at most 1,000."
+-- most 65,535 and own events at most 1,000." "Questions 1 and 15 allow the editions defined so far".
 unfoldable pub isZoneSound : Zone → Bool
 isZoneSound z =
-    isCount (z .count) && isOn (z .count) (z .number) && within (z .deps) (z .count) && leb (z .stock) mostCars
+    isEdition (z .edition) && isCount (z .count) && isOn (z .count) (z .number) && within (z .deps) (z .count)
+    && leb (z .stock) mostCars
     && leb (z .events) mostRecords
 
 -- Question 6, "There, 6 counts own events".
 abbrev pub hasRoom : Zone → Bool
 hasRoom z = ltb (z .events) mostRecords
 
--- "Opening one zone: 2, then 5 for its own number; refused, it hands back zone 1 of 2 with stock 0."
-abbrev pub openedZone : ℕ → ℕ → ℕ → Zone
-openedZone count number stock =
+-- "Opening, of a site or of one zone, now names the edition."
+abbrev pub openedZone : ℕ → ℕ → ℕ → ℕ → Zone
+openedZone edition count number stock =
     let l = opened (index number) stock in
-    record { number = number; count = count; stock = l .stock; deps = l .deps; events = l .events; checkpoint = l .checkpoint }
+    record {
+      edition = edition;
+      number = number;
+      count = count;
+      stock = l .stock;
+      deps = l .deps;
+      events = l .events;
+      checkpoint = l .checkpoint;
+    }
 
-unfoldable pub openZone : ℕ → ℕ → ℕ → ZoneOpened
-openZone count number stock =
-    ask (question 2 (isCount count) ∷ question 5 (isOn count number) ∷ [])
-    (λ n. record { refusal = n; zone = openedZone 2 1 0 })
-    (record { refusal = 0; zone = openedZone count number stock })
+-- "Opening one zone: 2, then 5 for its own number; refused, it hands back zone 1 of 2 with stock 0." "15, for the edition named, comes
+-- first in opening. What a refused opening or reading hands back has edition 1".
+unfoldable pub openZone : ℕ → ℕ → ℕ → ℕ → ZoneOpened
+openZone edition count number stock =
+    ask (question 15 (isEdition edition) ∷ question 2 (isCount count) ∷ question 5 (isOn count number) ∷ [])
+    (λ n. record { refusal = n; zone = openedZone firstEdition 2 1 0 })
+    (record { refusal = 0; zone = openedZone edition count number stock })
 
 -- A refused step hands the zone back unchanged; the flag and both sets are 0.
 abbrev pub refused : Zone → ℕ → Step
@@ -67,19 +80,21 @@ accepted z flag to carried = record { refusal = 0; zone = z; flag = flag; to = t
 abbrev pub requestingStep : Zone → Requesting → Step
 requestingStep z a = accepted (withLocal z (a .local)) false (a .to) (a .carried)
 
--- "Send: 1, 5, 6, 7." It names the receiver and answers the flag ("marked bit").
+-- "Send: 1, 5, 6, 7." It names the receiver and answers the flag ("marked bit"). From edition 2 on a hand-over of 0 cars "is no own event",
+-- whatever the list asks.
 unfoldable pub sendStep : Zone → ℕ → ℕ → Step
 sendStep z to cars =
     ask (question 1 (isZoneSound z) ∷ question 5 (isOther z to) ∷ question 6 (hasRoom z) ∷ question 7 (leb cars (z .stock)) ∷ [])
     (refused z)
-    (accepted (withLocal z (sent cars (localOf z))) (hasCheckpoint (z .checkpoint)) nobody nobody)
+    (accepted (withLocal z (sentUnder (z .edition) cars (localOf z))) (hasCheckpoint (z .checkpoint)) nobody nobody)
 
--- "Take a hand-over: 1, 5, 6, 20." It names the sender.
+-- "Take a hand-over: 1, 5, 6, 20." It names the sender. From edition 2 on one of 0 cars "is no own event, adds nothing to a heard set,
+-- causes no mark".
 unfoldable pub receiveStep : Zone → ℕ → ℕ → Bool → Step
 receiveStep z from cars flag =
     ask (question 1 (isZoneSound z) ∷ question 5 (isOther z from) ∷ question 6 (hasRoom z) ∷ question 20 (leb (z .stock + cars) mostCars) ∷ [])
     (refused z)
-    (accepted (withLocal z (received (index from) cars flag (localOf z))) false nobody nobody)
+    (accepted (withLocal z (receivedUnder (z .edition) (index from) cars flag (localOf z))) false nobody nobody)
 
 -- "Take a request: 1, 5, its set's zones being on the site."
 unfoldable pub requestStep : Zone → ℕ → Step

@@ -15,15 +15,17 @@ ghost use Rattle.zone.specs.Zone.{
   requestStep,
   startStep,
 };
+use edition::FIRST_EDITION;
 use rules::Checkpoint;
 use rules::FEWEST_ZONES;
 use rules::Local;
 use rules::MOST_CARS;
 use rules::MOST_RECORDS;
 
-// One zone: its number and the zone count of its site, its stock, its dependency set ("heard set": the zone numbered k is the bit of
+// One zone: its edition, its number and the zone count of its site, its stock, its dependency set ("heard set": the zone numbered k is the bit of
 // weight 2 to the power k - 1), its own events and its checkpoint ("mark").
 pub struct Zone {
+    pub edition: u8,
     pub number: u8,
     pub count: u8,
     pub stock: u16,
@@ -62,24 +64,30 @@ fn refused(zone: Zone, n: u8) -> Step
 
 impl Zone {
     // A zone at first, with its stock.
-    pub fn open(count: u8, number: u8, stock: u16) -> ZoneOpened
-        ensures { λ r. ⌜ r ≡ openZone count number stock ⌝ }
+    pub fn open(edition: u8, count: u8, number: u8, stock: u16) -> ZoneOpened
+        ensures { λ r. ⌜ r ≡ openZone edition count number stock ⌝ }
     {
+        if !edition::is_edition(edition) {
+            return ZoneOpened {
+                refusal: 15,
+                zone: opened(FIRST_EDITION, FEWEST_ZONES, 1, 0),
+            };
+        }
         if !questions::is_count(count) {
             return ZoneOpened {
                 refusal: 2,
-                zone: opened(FEWEST_ZONES, 1, 0),
+                zone: opened(FIRST_EDITION, FEWEST_ZONES, 1, 0),
             };
         }
         if !questions::is_on(count, number) {
             return ZoneOpened {
                 refusal: 5,
-                zone: opened(FEWEST_ZONES, 1, 0),
+                zone: opened(FIRST_EDITION, FEWEST_ZONES, 1, 0),
             };
         }
         ZoneOpened {
             refusal: 0,
-            zone: opened(count, number, stock),
+            zone: opened(edition, count, number, stock),
         }
     }
 
@@ -100,6 +108,7 @@ impl Zone {
     {
         let checkpoint = local.checkpoint;
         Zone {
+            edition: self.edition,
             number: self.number,
             count: self.count,
             stock: local.stock,
@@ -112,12 +121,13 @@ impl Zone {
     fn is_sound(self) -> bool
         ensures { λ r. ⌜ r ≡ isZoneSound self ⌝ }
     {
-        let a = questions::is_count(self.count);
-        let b = questions::is_on(self.count, self.number);
-        let c = questions::is_within(self.deps, self.count);
-        let d = self.stock <= MOST_CARS;
-        let e = self.events <= MOST_RECORDS;
-        a & b & c & d & e
+        let a = edition::is_edition(self.edition);
+        let b = questions::is_count(self.count);
+        let c = questions::is_on(self.count, self.number);
+        let d = questions::is_within(self.deps, self.count);
+        let e = self.stock <= MOST_CARS;
+        let f = self.events <= MOST_RECORDS;
+        a & b & c & d & e & f
     }
 
     fn is_other(self, zone: u8) -> bool
@@ -146,7 +156,7 @@ impl Zone {
         }
         let checkpoint = self.checkpoint;
         let flag = local::has_checkpoint(checkpoint);
-        let next = local::send(self.local(), cars);
+        let next = local::send(self.local(), self.edition, cars);
         self = self.with_local(next);
         Step {
             refusal: 0,
@@ -173,7 +183,7 @@ impl Zone {
         if MOST_CARS - (cars as u16) < self.stock {
             return refused(self, 20);
         }
-        let next = local::receive(self.local(), from - 1, cars, flag);
+        let next = local::receive(self.local(), self.edition, from - 1, cars, flag);
         self = self.with_local(next);
         Step {
             refusal: 0,
@@ -230,13 +240,14 @@ impl Zone {
     }
 }
 
-fn opened(count: u8, number: u8, stock: u16) -> Zone
+fn opened(edition: u8, count: u8, number: u8, stock: u16) -> Zone
     requires { ⌜ (1 ≤ number) × (number ≤ mostZones) ⌝ }
-    ensures { λ r. ⌜ r ≡ Rattle.zone.specs.Zone.openedZone count number stock ⌝ }
+    ensures { λ r. ⌜ r ≡ Rattle.zone.specs.Zone.openedZone edition count number stock ⌝ }
 {
     let local = local::open(number - 1, stock);
     let checkpoint = local.checkpoint;
     Zone {
+        edition,
         number,
         count,
         stock: local.stock,

@@ -1,0 +1,59 @@
+-- Editions of the zone part, of every zone, sound or not: no step changes its edition, and from edition 2 on a line check, a hand-over of
+-- 0 cars, leaves it as it was, accepted or refused.
+use mathlib.Core.Path.{_≡_, refl, ap}
+use mathlib.Core.Bool.{Bool, true, false, cond}
+use mathlib.Core.List.{List, [], _∷_}
+use Prim.Native.Nat.{ℕ, _≤_}
+use Rattle.rules.specs.Change.{on}
+use Rattle.rules.specs.Edition.{isTraffic}
+use Rattle.rules.specs.Questions.{Question, ask, index}
+use Rattle.rules.specs.Zone.{sent, received}
+use Rattle.rules.specs.declared.Local.{Local}
+use Rattle.rules.proofs.Editions.{check-traffic}
+use Rattle.zone.specs.Zone.{localOf, withLocal, refused, sendStep, receiveStep, requestStep, startStep}
+use Rattle.zone.specs.declared.Step.{Step}
+use Rattle.zone.specs.declared.Zone.{Zone}
+use Rattle.zone.proofs.Asks.{sendAsks, receiveAsks, requestAsks, startAsks}
+
+-- What an accepted step keeps of the zone, the step keeps, whatever its questions.
+step-keeps : {A : Type 0} (f : Zone → A) (qs : List Question) (z : Zone) (x : Step) → f (x .zone) ≡ f z → f (ask qs (refused z) x .zone) ≡ f z
+step-keeps f [] z x e = e
+step-keeps {A} f (q ∷ qs) z x e = go (q .yes) (step-keeps f qs z x e)
+  where
+    go : (p : Bool) → f (ask qs (refused z) x .zone) ≡ f z → f (cond p (ask qs (refused z) x) (refused z (q .number)) .zone) ≡ f z
+    go true h = h
+    go false h = refl
+
+module _ (z : Zone) where
+  abbrev edition : Zone → ℕ
+  edition y = y .edition
+
+  pub send-edition : (to cars : ℕ) → sendStep z to cars .zone .edition ≡ z .edition
+  unfolding sendStep
+  send-edition to cars = step-keeps edition (sendAsks z to cars) z _ refl
+
+  pub receive-edition : (from cars : ℕ) (flag : Bool) → receiveStep z from cars flag .zone .edition ≡ z .edition
+  unfolding receiveStep
+  receive-edition from cars flag = step-keeps edition (receiveAsks z from cars) z _ refl
+
+  pub request-edition : (set : ℕ) → requestStep z set .zone .edition ≡ z .edition
+  unfolding requestStep
+  request-edition set = step-keeps edition (requestAsks z set) z _ refl
+
+  pub start-edition : startStep z .zone .edition ≡ z .edition
+  unfolding startStep
+  start-edition = step-keeps edition (startAsks z) z _ refl
+
+-- "it is no own event, adds nothing to a heard set, causes no mark".
+module _ (z : Zone) (from-two : 2 ≤ z .edition) where
+  -- What a change makes of the zone, where it is made for traffic alone.
+  still : (g : Local → Local) → withLocal z (on (isTraffic (z .edition) 0) g (localOf z)) ≡ z
+  still g = ap (λ (p : Bool). withLocal z (on p g (localOf z))) (check-traffic (z .edition) from-two)
+
+  pub send-check : (to : ℕ) → sendStep z to 0 .zone ≡ z
+  unfolding sendStep
+  send-check to = step-keeps (λ (y : Zone). y) (sendAsks z to 0) z _ (still (sent 0))
+
+  pub receive-check : (from : ℕ) (flag : Bool) → receiveStep z from 0 flag .zone ≡ z
+  unfolding receiveStep
+  receive-check from flag = step-keeps (λ (y : Zone). y) (receiveAsks z from 0) z _ (still (received (index from) 0 flag))
