@@ -29,12 +29,12 @@ after-plain (c ∷ cs) z =
 
 -- From what `cut_zone_open` answers on, a refused opening included, whatever the calls: C is answered the refusals, flags and sets that the
 -- zone part answers, and its struct stands for the zone part's zone.
-module _ (count number stock : ℕ) (cs : List ZoneCall) where
-  pub opened-answers : answersPlain cs (openPlain count number stock .zone) ≡ map plainStep (answers cs (openZone count number stock .zone))
-  opened-answers = answers-plain cs (openZone count number stock .zone)
+module _ (edition count number stock : ℕ) (cs : List ZoneCall) where
+  pub opened-answers : answersPlain cs (openPlain edition count number stock .zone) ≡ map plainStep (answers cs (openZone edition count number stock .zone))
+  opened-answers = answers-plain cs (openZone edition count number stock .zone)
 
-  pub opened-plain : afterPlain cs (openPlain count number stock .zone) ≡ plainOf (after cs (openZone count number stock .zone))
-  opened-plain = after-plain cs (openZone count number stock .zone)
+  pub opened-plain : afterPlain cs (openPlain edition count number stock .zone) ≡ plainOf (after cs (openZone edition count number stock .zone))
+  opened-plain = after-plain cs (openZone edition count number stock .zone)
 
-  pub opened-zone : zoneOf (afterPlain cs (openPlain count number stock .zone)) ≡ after cs (openZone count number stock .zone)
-  opened-zone = ap zoneOf opened-plain ∙ zone-back (after cs (openZone count number stock .zone))
+  pub opened-zone : zoneOf (afterPlain cs (openPlain edition count number stock .zone)) ≡ after cs (openZone edition count number stock .zone)
+  opened-zone = ap zoneOf opened-plain ∙ zone-back (after cs (openZone edition count number stock .zone))

@@ -20,6 +20,7 @@ markOf kind s =
 
 abbrev pub zoneOf : PlainZone → Zone
 zoneOf p = record {
+  edition = p .edition;
   number = p .number;
   count = p .count;
   stock = p .stock;
@@ -47,6 +48,7 @@ plainOf z = record {
   stock = z .stock;
   events = z .events;
   saved = savedOf (z .checkpoint);
+  edition = z .edition;
 }
 
 abbrev pub flagOf : Bool → ℕ
@@ -71,9 +73,9 @@ plainStep s = record { zone = plainOf (s .zone); refusal = s .refusal; flag = fl
 abbrev pub ifKind : PlainZone → PlainStep → PlainStep
 ifKind p s = cond (ltb 2 (p .mark)) (refusedPlain p 1) s
 
-abbrev pub openPlain : ℕ → ℕ → ℕ → PlainOpening
-openPlain count number stock =
-    let o = openZone count number stock in
+abbrev pub openPlain : ℕ → ℕ → ℕ → ℕ → PlainOpening
+openPlain edition count number stock =
+    let o = openZone edition count number stock in
     record { zone = plainOf (o .zone); refusal = o .refusal }
 
 unfoldable pub sendPlain : PlainZone → ℕ → ℕ → PlainStep

@@ -40,6 +40,7 @@ pub struct PlainZone {
     pub stock: u16,
     pub events: u16,
     pub saved: PlainSaved,
+    pub edition: u8,
 }
 
 // What opening answers.
@@ -84,6 +85,7 @@ fn zone_of(p: PlainZone) -> Zone
     let saved = p.saved;
     let checkpoint = mark_of(p.mark, saved);
     Zone {
+        edition: p.edition,
         number: p.number,
         count: p.count,
         stock: p.stock,
@@ -136,6 +138,7 @@ fn plain_of(z: Zone) -> PlainZone
         stock: z.stock,
         events: z.events,
         saved,
+        edition: z.edition,
     }
 }
 
@@ -181,10 +184,10 @@ fn answer(p: PlainZone, s: Step) -> PlainStep
 
 // Opening one zone.
 #[no_mangle]
-pub extern "C" fn cut_zone_open(count: u8, number: u8, stock: u16) -> PlainOpening
-    ensures { λ r. ⌜ r ≡ openPlain count number stock ⌝ }
+pub extern "C" fn cut_zone_open(edition: u8, count: u8, number: u8, stock: u16) -> PlainOpening
+    ensures { λ r. ⌜ r ≡ openPlain edition count number stock ⌝ }
 {
-    let opened = Zone::open(count, number, stock);
+    let opened = Zone::open(edition, count, number, stock);
     let after = opened.zone;
     let zone = plain_of(after);
     PlainOpening {
