@@ -1,7 +1,7 @@
 -- The cars of a network. Every accepted call is between zones of the site, so that no car is made or lost: a complete recording shows as
 -- many as were opened, and a zone refuses no message with 20 where no more were opened than a zone may have.
 use mathlib.Core.Path.{_≡_, refl, sym, _∙_, ap, subst}
-use mathlib.Core.Bool.{Bool, true, false, not, false≢true, true≢false}
+use mathlib.Core.Bool.{Bool, true, false, _&&_, not, false≢true, true≢false}
 use mathlib.Core.Logic.{_≢_, _⊎_, inl, inr}
 use mathlib.Core.List.{List, [], _∷_}
 use mathlib.Core.Option.{Option, none, some}
@@ -12,6 +12,7 @@ use borrow.Author.Tests.{le-leb}
 use Rattle.rules.specs.Below.{sumBelow, sum}
 use Rattle.rules.specs.Change.{cons-if}
 use Rattle.rules.specs.Cut.{Complete, carsOn, present, snapshot}
+use Rattle.rules.specs.Edition.{isEdition, isTraffic}
 use Rattle.rules.specs.Limits.{mostCars}
 use Rattle.rules.specs.Opening.{Opening}
 use Rattle.rules.specs.Park.{total}
@@ -19,6 +20,7 @@ use Rattle.rules.specs.Questions.{Question, question, ask, Among, isCount, isOn
 use Rattle.rules.specs.Site.{Item, message, request, Site, Call, send, receive, start}
 use Rattle.rules.proofs.AskLaws.{AllYes, numbers, lacks, not-among, ask-cases}
 use Rattle.rules.proofs.Conservation.{Between, present-total, recorded-total}
+use Rattle.rules.proofs.Editions.{no-cars}
 use Rattle.rules.proofs.Lists.{All}
 use Rattle.rules.proofs.QuestionLaws.{on-high}
 use Rattle.rules.proofs.Sums.{sum-at}
@@ -26,9 +28,10 @@ use Rattle.rules.proofs.Tests.{and-left, and-right, eqb-refl, below?}
 use Rattle.zone.specs.Zone.{isZoneSound, isOther, hasRoom, refused, sendStep, receiveStep, requestStep, startStep}
 use Rattle.zone.specs.declared.Step.{Step}
 use Rattle.zone.specs.declared.Zone.{Zone}
+use Rattle.zone.proofs.Asks.{sendAsks, requestAsks, startAsks}
 use Rattle.network.specs.Network.{Network, openNetwork, takeStep, answer, isAccepted, made, after, acceptedCalls, startsIn, networkSite}
 use Rattle.network.specs.Polls.{stepOf}
-use Rattle.network.proofs.Network.{sendAsks, requestAsks, startAsks, send-step, receive-step, network-follows}
+use Rattle.network.proofs.Network.{send-step, receive-step, network-follows}
 use Rattle.network.proofs.Effects.{requestsOn}
 use Rattle.network.proofs.Balance.{OnSite, refused-at, site-made, site-after, site-open}
 
@@ -42,7 +45,7 @@ other-on z k e =
 
 sound-on : (z : Zone) → isZoneSound z ≡ true → z .number ≤ z .count
 unfolding isZoneSound
-sound-on z e = on-high (z .count) (z .number) (and-right (isCount (z .count)) _ (and-left _ _ (and-left _ _ (and-left _ _ e))))
+sound-on z e = on-high (z .count) (z .number) (and-right (isEdition (z .edition) && isCount (z .count)) _ (and-left _ _ (and-left _ _ (and-left _ _ e))))
 
 module _ (n : ℕ) (net : Network) (site : OnSite n net) where
   -- The zone whose step it is.
@@ -74,6 +77,14 @@ module _ (n : ℕ) (net : Network) (site : OnSite n net) where
   between (send a b cars) e = (own-on (send a b cars) e, named-on a b (send-step (net .zone a) (b + 1) cars e .1))
   between (receive a b) e = (sender-on a b (net .channel a b) refl e, own-on (receive a b) e)
   between (start a) e = own-on (start a) e
+
+-- The cars of a message that stands first are on its channel: a line check has none.
+first-within : (edition cars : ℕ) (flag : Bool) (l : List Item) → cars ≤ sum (carsOn edition (message cars flag ∷ l))
+first-within edition cars flag l = go (isTraffic edition cars) refl
+  where
+    go : (p : Bool) → isTraffic edition cars ≡ p → cars ≤ sum (cons-if p cars (carsOn edition l))
+    go true t = omega arith
+    go false t = omega (arith, no-cars edition cars t)
 
 all-between : (n : ℕ) (cs : List Call) (net : Network) → OnSite n net → All (Between n) (acceptedCalls cs net)
 all-between n [] net site = tt
@@ -138,13 +149,13 @@ module _ (n : ℕ) (o : Opening) (cs : List Call) (one : startsIn (acceptedCalls
   site = site-after n cs (openNetwork n o) (site-open n o)
 
   -- The stocks and the cars on channels are as many cars as were opened.
-  pub network-total : total n (present (networkSite net)) ≡ sumBelow n (o .stocks)
+  pub network-total : total n (present (networkSite (o .edition) net)) ≡ sumBelow n (o .stocks)
   network-total =
       let r = network-follows n o cs one in
       ap (λ (s : Site). total n (present s)) (r .1) ∙ present-total n o ones (all-between n cs (openNetwork n o) (site-open n o)) (r .0)
 
   -- And so many are shown, once the recording is complete.
-  pub network-shows-total : Complete (networkSite net) → total n (snapshot o ones .park) ≡ sumBelow n (o .stocks)
+  pub network-shows-total : Complete (networkSite (o .edition) net) → total n (snapshot o ones .park) ≡ sumBelow n (o .stocks)
   network-shows-total done =
       let r = network-follows n o cs one in
       recorded-total n o ones (all-between n cs (openNetwork n o) (site-open n o)) (r .0) (subst Complete (r .1) done)
@@ -154,10 +165,10 @@ module _ (n : ℕ) (o : Opening) (cs : List Call) (one : startsIn (acceptedCalls
       → net .zone b .stock + cars ≤ sumBelow n (o .stocks)
   room a b cars flag l ha hb at =
       let stocks = sum-at n (λ k. net .zone k .stock) b hb in
-      let lines = sum-at n (λ i. sumBelow n (λ j. sum (carsOn (net .channel i j)))) a ha in
-      let line = sum-at n (λ j. sum (carsOn (net .channel a j))) b hb in
-      let first = ap (λ (l : List Item). sum (carsOn l)) at in
-      omega (arith, network-total)
+      let lines = sum-at n (λ i. sumBelow n (λ j. sum (carsOn (o .edition) (net .channel i j)))) a ha in
+      let line = sum-at n (λ j. sum (carsOn (o .edition) (net .channel a j))) b hb in
+      let first = ap (λ (l : List Item). sum (carsOn (o .edition) l)) at in
+      omega (arith, network-total, first-within (o .edition) cars flag l)
 
   -- Where no more cars were opened than a zone may have, no call is refused with 20.
   pub never-20 : sumBelow n (o .stocks) ≤ mostCars → (c : Call) → RefusedWith 20 (answer c net) → ⊥

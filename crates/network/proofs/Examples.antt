@@ -1,8 +1,8 @@
 -- A network of two zones whose recording is complete, and one of four zones that a collector polls: the premises of the theorems can be
--- met, and one round of polls is not enough.
+-- met, and one round of polls is not enough. And a network of edition 2, whose line checks draw no zone into the count.
 use mathlib.Core.Path.{_≡_, refl, sym, _∙_, ap, subst}
 use mathlib.Core.Bool.{Bool, true, false, _&&_, cond, and-false}
-use mathlib.Core.List.{List, [], _∷_, _++_, tail}
+use mathlib.Core.List.{List, [], _∷_, _++_, tail, map}
 use Prim.Native.Nat.{ℕ, _≤_}
 use native.Mathlib.Omega.{arith}
 use lib.Count.{ones, onesIn}
@@ -12,6 +12,7 @@ use Rattle.rules.specs.Below.{sumBelow}
 use Rattle.rules.specs.Change.{on, join}
 use Rattle.rules.specs.Cut.{Complete, Cut, Snapshot, shownBy, snapshot}
 use Rattle.rules.specs.Park.{total}
+use Rattle.rules.specs.Edition.{firstEdition, isEdition, isTraffic}
 use Rattle.rules.specs.Questions.{isCount, isOn}
 use Rattle.rules.specs.Sets.{has}
 use Rattle.rules.specs.Site.{Item, message, request, Call, send, receive, start, waits}
@@ -27,7 +28,7 @@ use Rattle.network.proofs.Polls.{settled-cut}
 
 -- Zone 2 is opened full.
 abbrev opening : Opening
-opening = record { stocks = λ k. cond (eqb k 0) 10 65535 }
+opening = record { edition = firstEdition; stocks = λ k. cond (eqb k 0) 10 65535 }
 
 -- The first receipt is refused, as zone 2 has no room for 4 cars more; the message stays on its channel and is received later. The
 -- second start and the last are refused, as their zones have checkpoints.
@@ -39,7 +40,7 @@ abbrev acceptedOnes : List Call
 acceptedOnes = send 0 1 4 ∷ send 1 0 4 ∷ receive 0 1 ∷ start 1 ∷ receive 1 0 ∷ receive 1 0 ∷ []
 
 accepted-ones : acceptedCalls calls (openNetwork 2 opening) ≡ acceptedOnes
-unfolding isCount isOn isZoneSound isOther sendStep receiveStep requestStep startStep requestedBy startedBy has
+unfolding isEdition isTraffic isCount isOn isZoneSound isOther sendStep receiveStep requestStep startStep requestedBy startedBy has
 accepted-ones = refl
 
 -- Any of its channels, by what joined and left it: is it that from zone 1 to zone 2 (p) or back (q), and did a request join it (a, b, c)?
@@ -57,14 +58,14 @@ emptied false false = refl
 
 channel-is : (i j : ℕ) → after calls (openNetwork 2 opening) .channel i j
     ≡ channelItems (eqb i 0 && eqb j 1) (eqb i 1 && eqb j 0) (eqb i 1 && has 0 j) (eqb i 1 && has 1 j) (eqb i 0 && has 0 j)
-unfolding isCount isOn isZoneSound isOther sendStep receiveStep requestStep startStep requestedBy startedBy has
+unfolding isEdition isTraffic isCount isOn isZoneSound isOther sendStep receiveStep requestStep startStep requestedBy startedBy has
 channel-is i j = refl
 
 empty-channel : (i j : ℕ) → after calls (openNetwork 2 opening) .channel i j ≡ []
 empty-channel i j = channel-is i j ∙ rw (has-nobody j, has-only 0 j, and-false (eqb i 0), and-false (eqb i 1)) (emptied (eqb i 0 && eqb j 1) (eqb i 1 && eqb j 0))
 
-complete : Complete (networkSite (after calls (openNetwork 2 opening)))
-unfolding isCount isOn isZoneSound isOther sendStep receiveStep requestStep startStep requestedBy startedBy has
+complete : Complete (networkSite firstEdition (after calls (openNetwork 2 opening)))
+unfolding isEdition isTraffic isCount isOn isZoneSound isOther sendStep receiveStep requestStep startStep requestedBy startedBy has
 complete = ((1, refl), λ i j. ap waits (empty-channel i j))
 
 -- So what is shown of them is a consistent cut of them.
@@ -77,7 +78,7 @@ example-cut = subst (λ (cs : List Call). Cut opening cs (snapshot opening cs)) 
 -- Four zones of 10 cars. Zone 2 depends on zones 3 and 4, and zone 1, which got 5 cars of it, on zone 2. Zone 1 starts; zone 2 takes its
 -- request and sends requests to zones 3 and 4; zone 3 takes its own.
 abbrev tens : Opening
-tens = record { stocks = λ k. 10 }
+tens = record { edition = firstEdition; stocks = λ k. 10 }
 
 abbrev fewCalls : List Call
 fewCalls =
@@ -88,14 +89,14 @@ abbrev oneRound : ℕ → Poll
 oneRound k = polledAt fewCalls (openNetwork 4 tens) (cond (ltb k 2) 7 9) k
 
 abbrev roundShown : Snapshot
-roundShown = shownBy tens (acceptedCalls fewCalls (openNetwork 4 tens)) (polledSite oneRound)
+roundShown = shownBy tens (acceptedCalls fewCalls (openNetwork 4 tens)) (polledSite firstEdition oneRound)
 
 -- By what was read one request was sent and one was taken, and zone 1 is permanent. Yet a request waits for zone 4, and the 5 cars are
 -- shown in zone 1 and in zone 2.
 pub one-round-is-not-enough : (sumBelow 4 (λ k. oneRound k .sent) ≡ 1) × (sumBelow 4 (λ k. oneRound k .taken) ≡ 1)
     × (isPermanent (oneRound 0 .zone .checkpoint) ≡ true) × (waits (after fewCalls (openNetwork 4 tens) .channel 1 3) ≡ true)
     × (total 4 (roundShown .park) ≡ 45) × (sumBelow 4 (tens .stocks) ≡ 40)
-unfolding isCount isOn isZoneSound isOther sendStep receiveStep requestStep startStep requestedBy startedBy has ones onesIn
+unfolding isEdition isTraffic isCount isOn isZoneSound isOther sendStep receiveStep requestStep startStep requestedBy startedBy has ones onesIn
 one-round-is-not-enough = (refl, refl, refl, refl, refl, refl)
 
 -- Then zone 4 takes its request, and the traffic goes on while two rounds are made: a car leaves zone 1 and comes to zone 3 between the
@@ -119,7 +120,7 @@ abbrev polled : (ℕ → ℕ) → ℕ → Poll
 polled round k = polledAt moreCalls (openNetwork 4 tens) (round k) k
 
 two-settled : Settled 4 (polled firstRound) (polled secondRound)
-unfolding isCount isOn isZoneSound isOther sendStep receiveStep requestStep startStep requestedBy startedBy has ones onesIn
+unfolding isEdition isTraffic isCount isOn isZoneSound isOther sendStep receiveStep requestStep startStep requestedBy startedBy has ones onesIn
 two-settled = record {
   sent-kept = λ k h. eqb→eq _ _ (below 4 (λ k. eqb (polled firstRound k .sent) (polled secondRound k .sent)) tt k h);
   taken-kept = λ k h. eqb→eq _ _ (below 4 (λ k. eqb (polled firstRound k .taken) (polled secondRound k .taken)) tt k h);
@@ -128,16 +129,58 @@ two-settled = record {
 }
 
 one-start : startsIn (acceptedCalls moreCalls (openNetwork 4 tens)) ≤ 1
-unfolding isCount isOn isZoneSound isOther sendStep receiveStep requestStep startStep requestedBy startedBy has
+unfolding isEdition isTraffic isCount isOn isZoneSound isOther sendStep receiveStep requestStep startStep requestedBy startedBy has
 one-start = leb→le _ 1 tt
 
 abbrev roundsShown : Snapshot
-roundsShown = shownBy tens (acceptedCalls moreCalls (openNetwork 4 tens)) (polledSite (polled secondRound))
+roundsShown = shownBy tens (acceptedCalls moreCalls (openNetwork 4 tens)) (polledSite firstEdition (polled secondRound))
 
 -- Two rounds that are settled: what the second read is a consistent cut, with the 40 cars.
 pub two-rounds-cut : Cut tens (acceptedCalls moreCalls (openNetwork 4 tens)) roundsShown
 two-rounds-cut = settled-cut 4 tens moreCalls one-start firstRound secondRound two-rounds two-settled
 
 pub two-rounds-total : total 4 (roundsShown .park) ≡ 40
-unfolding isCount isOn isZoneSound isOther sendStep receiveStep requestStep startStep requestedBy startedBy has
+unfolding isEdition isTraffic isCount isOn isZoneSound isOther sendStep receiveStep requestStep startStep requestedBy startedBy has
 two-rounds-total = refl
+
+-- ---- line checks
+
+-- Three zones of 10 cars in edition 2. Zone 1, which got 3 cars of zone 2 and a line check of zone 3, starts, so that it sends a request to
+-- zone 2 alone. Its own check of the line to zone 3 goes with the flag, and zone 3 takes it. Before the start zone 2 sent a check that nobody
+-- takes.
+abbrev checked : Opening
+checked = record { edition = 2; stocks = λ k. 10 }
+
+abbrev checkCalls : List Call
+checkCalls =
+    send 1 0 3 ∷ receive 1 0 ∷ send 2 0 0 ∷ receive 2 0 ∷ send 1 0 0 ∷ start 0 ∷ send 0 2 0 ∷ receive 0 2 ∷ receive 0 1 ∷ []
+
+-- Both rounds are made at the end.
+abbrev endPolls : ℕ → Poll
+endPolls k = polledAt checkCalls (openNetwork 3 checked) 9 k
+
+abbrev checksShown : Snapshot
+checksShown = shownBy checked checkCalls (polledSite 2 endPolls)
+
+check-accepted : acceptedCalls checkCalls (openNetwork 3 checked) ≡ checkCalls
+unfolding isEdition isTraffic isCount isOn isZoneSound isOther sendStep receiveStep requestStep startStep requestedBy startedBy has
+check-accepted = refl
+
+check-settled : Settled 3 endPolls endPolls
+unfolding isEdition isTraffic isCount isOn isZoneSound isOther sendStep receiveStep requestStep startStep requestedBy startedBy has ones onesIn
+check-settled = record { sent-kept = λ k h. refl; taken-kept = λ k h. refl; all-taken = refl; some-permanent = (0, lit< tt, refl) }
+
+-- What is shown is a consistent cut of all the calls: zones 1 and 2 with one own event each, zone 3 not, and nothing on the line from zone 2
+-- to zone 1, where the check still stands.
+pub checks-cut : Cut checked checkCalls checksShown
+checks-cut = subst (λ (cs : List Call). Cut checked cs (shownBy checked cs (polledSite 2 endPolls))) check-accepted
+    (settled-cut 3 checked checkCalls (subst (λ (cs : List Call). startsIn cs ≤ 1) (sym check-accepted) (omega arith)) (λ k. 9) (λ k. 9)
+    (9, λ k h. (omega arith, omega arith)) check-settled)
+
+pub checks-shown : (map (checksShown .recorded) (0 ∷ 1 ∷ 2 ∷ []) ≡ true ∷ true ∷ false ∷ [])
+    × (map (checksShown .events) (0 ∷ 1 ∷ 2 ∷ []) ≡ 1 ∷ 1 ∷ 0 ∷ [])
+    × (map (checksShown .park .stock) (0 ∷ 1 ∷ 2 ∷ []) ≡ 13 ∷ 7 ∷ 10 ∷ [])
+    × (checksShown .park .channel 1 0 ≡ [])
+    × (after checkCalls (openNetwork 3 checked) .channel 1 0 ≡ message 0 false ∷ [])
+unfolding isEdition isTraffic isCount isOn isZoneSound isOther sendStep receiveStep requestStep startStep requestedBy startedBy has
+checks-shown = (refl, refl, refl, refl, refl)

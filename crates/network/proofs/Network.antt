@@ -7,16 +7,15 @@ use mathlib.Core.List.{List, [], _∷_, tail}
 use mathlib.Core.Option.{Option, none, some}
 use Prim.Native.Nat.{ℕ, suc, _+_, _≤_}
 use native.Mathlib.Omega.{arith}
-use lib.Dec.{eqb, leb}
+use lib.Dec.{eqb}
 use borrow.Author.Tests.{eqb-true, leb-true, not-true}
 use Rattle.rules.specs.Change.{on, join, cons-if}
 use Rattle.rules.specs.Opening.{Opening}
 use Rattle.rules.specs.Cut.{May, Allowed, run, Complete, Cut, shownBy, snapshot}
-use Rattle.rules.specs.Limits.{mostCars}
-use Rattle.rules.specs.Questions.{Question, question, ask, Among, index}
-use Rattle.rules.specs.Sets.{has, nobody, within}
+use Rattle.rules.specs.Questions.{Question, ask, Among, index}
+use Rattle.rules.specs.Sets.{has, nobody}
 use Rattle.rules.specs.Site.{Item, message, request, Site, sendS, popS, requestAllS, receiveS, turnS, requestS, startS, takeS, Call, send, receive, start, stepS, openS}
-use Rattle.rules.specs.Zone.{hasCheckpoint, isPermanent, opened, sent, received, started, requested, targets, carried}
+use Rattle.rules.specs.Zone.{hasCheckpoint, isPermanent, opened, sentUnder, receivedUnder, started, requested, targets, carried}
 use Rattle.rules.specs.declared.Checkpoint.{Checkpoint}
 use Rattle.rules.specs.declared.Checkpoint.the-variants.{None, Mutable, Permanent}
 use Rattle.rules.specs.declared.Local.{Local}
@@ -28,9 +27,10 @@ use Rattle.rules.proofs.History.{History, openH, initiatorAfter, stepH}
 use Rattle.rules.proofs.Kept.{Fresh, fresh-open, fresh-call}
 use Rattle.rules.proofs.Consistency.{consistent}
 use Rattle.local.specs.Requesting.{requestingAs, requestedBy, startedBy}
-use Rattle.zone.specs.Zone.{localOf, withLocal, isZoneSound, isOther, hasRoom, refused, accepted, requestingStep, sendStep, receiveStep, requestStep, startStep}
+use Rattle.zone.specs.Zone.{localOf, withLocal, isZoneSound, isOther, refused, accepted, requestingStep, sendStep, receiveStep, requestStep, startStep}
 use Rattle.zone.specs.declared.Step.{Step}
 use Rattle.zone.specs.declared.Zone.{Zone}
+use Rattle.zone.proofs.Asks.{sendAsks, receiveAsks, requestAsks, startAsks}
 use Rattle.network.specs.Network.{Network, openNetwork, takeStep, answer, isAccepted, sendsRequests, withoutFirst, stored, storedIf, made, after, acceptedCalls, startsIn, networkSite}
 
 -- Where no question has the number 0, an answer with refusal 0 is what the questions guard, and all of them were answered yes.
@@ -46,38 +46,23 @@ passed : (qs : List Question) (z : Zone) (x : Step) → lacks 0 (numbers qs) ≡
     → AllYes qs × (ask qs (refused z) x ≡ x)
 passed qs z x n e = ask-accepted (λ (s : Step). s .refusal) qs (refused z) x (λ m. refl) n (eqb-true (ask qs (refused z) x .refusal) 0 e)
 
--- The questions of each step.
-abbrev pub sendAsks : Zone → ℕ → ℕ → List Question
-sendAsks z to cars =
-    question 1 (isZoneSound z) ∷ question 5 (isOther z to) ∷ question 6 (hasRoom z) ∷ question 7 (leb cars (z .stock)) ∷ []
-
-abbrev pub receiveAsks : Zone → ℕ → ℕ → List Question
-receiveAsks z from cars =
-    question 1 (isZoneSound z) ∷ question 5 (isOther z from) ∷ question 6 (hasRoom z) ∷ question 20 (leb (z .stock + cars) mostCars) ∷ []
-
-abbrev pub requestAsks : Zone → ℕ → List Question
-requestAsks z set = question 1 (isZoneSound z) ∷ question 5 (within set (z .count)) ∷ []
-
-abbrev pub startAsks : Zone → List Question
-startAsks z = question 1 (isZoneSound z) ∷ question 11 (not (hasCheckpoint (z .checkpoint))) ∷ []
-
 -- What an accepted step answers, and what its questions said.
 pub send-step : (z : Zone) (to cars : ℕ) → eqb (sendStep z to cars .refusal) 0 ≡ true
-    → (sendStep z to cars ≡ accepted (withLocal z (sent cars (localOf z))) (hasCheckpoint (z .checkpoint)) nobody nobody) × (isOther z to ≡ true)
+    → (sendStep z to cars ≡ accepted (withLocal z (sentUnder (z .edition) cars (localOf z))) (hasCheckpoint (z .checkpoint)) nobody nobody) × (isOther z to ≡ true)
     × (cars ≤ z .stock)
 unfolding sendStep
 send-step z to cars e =
     let r = passed (sendAsks z to cars) z
-    (accepted (withLocal z (sent cars (localOf z))) (hasCheckpoint (z .checkpoint)) nobody nobody) refl e in
+    (accepted (withLocal z (sentUnder (z .edition) cars (localOf z))) (hasCheckpoint (z .checkpoint)) nobody nobody) refl e in
     (r .1, r .0 .1 .0, leb-true cars (z .stock) (r .0 .1 .1 .1 .0))
 
 pub receive-step : (z : Zone) (from cars : ℕ) (flag : Bool) → eqb (receiveStep z from cars flag .refusal) 0 ≡ true
-    → (receiveStep z from cars flag ≡ accepted (withLocal z (received (index from) cars flag (localOf z))) false nobody nobody)
+    → (receiveStep z from cars flag ≡ accepted (withLocal z (receivedUnder (z .edition) (index from) cars flag (localOf z))) false nobody nobody)
     × (isOther z from ≡ true)
 unfolding receiveStep
 receive-step z from cars flag e =
     let r = passed (receiveAsks z from cars) z
-    (accepted (withLocal z (received (index from) cars flag (localOf z))) false nobody nobody) refl e in
+    (accepted (withLocal z (receivedUnder (z .edition) (index from) cars flag (localOf z))) false nobody nobody) refl e in
     (r .1, r .0 .1 .0)
 
 pub request-step : (z : Zone) (set : ℕ) → eqb (requestStep z set .refusal) 0 ≡ true
@@ -100,6 +85,10 @@ start-step z e =
 -- The zone at index k has the number k + 1.
 abbrev pub Numbered : Network → Type 0
 Numbered net = (k : ℕ) → net .zone k .number ≡ k + 1
+
+-- All zones have this edition.
+abbrev InEdition : ℕ → Network → Type 0
+InEdition edition net = (k : ℕ) → net .zone k .edition ≡ edition
 
 index-of : (k n : ℕ) → n ≡ k + 1 → index n ≡ k
 index-of k n e = omega arith
@@ -124,65 +113,6 @@ targets-channel b i j to set l = go (eqb to 0) refl
     go true e = rw (eqb-true to 0 e, has-nobody j, and-false (eqb i b))
     go false e = refl
 
--- A message is sent.
-sent-site : (net : Network) (a b cars : ℕ) → eqb (sendStep (net .zone a) (b + 1) cars .refusal) 0 ≡ true
-    → networkSite (stored (send a b cars) (sendStep (net .zone a) (b + 1) cars) net) ≡ sendS a b cars (networkSite net)
-sent-site net a b cars e =
-    ap (λ (x : Step). networkSite (stored (send a b cars) x net)) (send-step (net .zone a) (b + 1) cars e .0)
-    ∙ site≡ _ _ (changed net a _ (sent cars) refl) (λ i j. refl)
-
--- A message is received.
-received-site : (net : Network) (a b cars : ℕ) (flag : Bool) → eqb (receiveStep (net .zone b) (a + 1) cars flag .refusal) 0 ≡ true
-    → networkSite (stored (receive a b) (receiveStep (net .zone b) (a + 1) cars flag) net) ≡ receiveS a b cars flag (networkSite net)
-received-site net a b cars flag e =
-    ap (λ (x : Step). networkSite (stored (receive a b) x net)) (receive-step (net .zone b) (a + 1) cars flag e .0)
-    ∙ site≡ _ _
-    (changed net b _ (received a cars flag)
-    (ap (λ (k : ℕ). received k cars flag (localOf (net .zone b))) (index-of a (a + 1) refl)))
-    (λ i j. no-targets b i j nobody (on (eqb i a && eqb j b) tail (net .channel i j)))
-
--- A zone takes a permanent checkpoint ("turns firm") by the change g, and sends requests.
-requests-site : (net : Network) (b set : ℕ) (g : Local → Local) → net .zone b .number ≡ b + 1
-    → networkSite (sendsRequests b (requestingStep (net .zone b)
-    (requestingAs (g (localOf (net .zone b))) (targets (index (net .zone b .number)) set (localOf (net .zone b))) (carried set (localOf (net .zone b))))) net)
-    ≡ requestAllS b g (targets b set (localOf (net .zone b))) (carried set (localOf (net .zone b))) (networkSite net)
-requests-site net b set g e =
-    ap (λ (k : ℕ). networkSite (sendsRequests b (requestingStep (net .zone b)
-    (requestingAs (g (localOf (net .zone b))) (targets k set (localOf (net .zone b))) (carried set (localOf (net .zone b))))) net))
-    (index-of b (net .zone b .number) e)
-    ∙ site≡ _ _ (changed net b _ g refl)
-    (λ i j. targets-channel b i j (targets b set (localOf (net .zone b))) (carried set (localOf (net .zone b))) (net .channel i j))
-
--- A request is received: "a firm zone drops it".
-requested-site : (net : Network) (a b set : ℕ) → Numbered net → eqb (requestStep (net .zone b) set .refusal) 0 ≡ true
-    → networkSite (stored (receive a b) (requestStep (net .zone b) set) net) ≡ requestS a b set (networkSite net)
-unfolding requestedBy
-requested-site net a b set num e =
-    ap (λ (x : Step). networkSite (stored (receive a b) x net)) (request-step (net .zone b) set e .0)
-    ∙ go (isPermanent (net .zone b .checkpoint))
-  where
-    go : (p : Bool)
-        → networkSite (sendsRequests b (requestingStep (net .zone b)
-        (cond p (requestingAs (localOf (net .zone b)) nobody nobody)
-        (requestingAs (requested (localOf (net .zone b))) (targets (index (net .zone b .number)) set (localOf (net .zone b)))
-        (carried set (localOf (net .zone b))))))
-        (withoutFirst a b net))
-        ≡ on (not p) (turnS b set) (popS a b (networkSite net))
-    go true = site≡ _ _ (λ k. changed net b _ (λ y. y) refl k ∙ idle (eqb k b) (localOf (net .zone k)))
-        (λ i j. no-targets b i j nobody (on (eqb i a && eqb j b) tail (net .channel i j)))
-      where
-        idle : (p : Bool) (y : Local) → on p (λ y. y) y ≡ y
-        idle true y = refl
-        idle false y = refl
-    go false = requests-site (withoutFirst a b net) b set requested (num b)
-
--- A recording is started.
-started-site : (net : Network) (a : ℕ) → Numbered net → eqb (startStep (net .zone a) .refusal) 0 ≡ true
-    → networkSite (stored (start a) (startStep (net .zone a)) net) ≡ startS a (networkSite net)
-unfolding startedBy
-started-site net a num e =
-    ap (λ (x : Step). networkSite (stored (start a) x net)) (start-step (net .zone a) e .0) ∙ requests-site net a nobody started (num a)
-
 -- A call that is not accepted changes nothing.
 pub refused-kept : (c : Call) (net : Network) → isAccepted (answer c net) ≡ false → made c net ≡ net
 refused-kept c net = go (answer c net)
@@ -191,25 +121,87 @@ refused-kept c net = go (answer c net)
     go none e = refl
     go (some x) e = on-false (eqb (x .refusal) 0) (stored c x) net e
 
--- An accepted call does to the network what the rules say of the site that it stands for.
-pub refine : (c : Call) (net : Network) → Numbered net → isAccepted (answer c net) ≡ true → networkSite (made c net) ≡ stepS c (networkSite net)
-refine (send a b cars) net num e =
-    let x = sendStep (net .zone a) (b + 1) cars in
-    ap networkSite (on-true (eqb (x .refusal) 0) (stored (send a b cars) x) net e) ∙ sent-site net a b cars e
-refine (receive a b) net num e = go (net .channel a b) e
-  where
-    go : (l : List Item) → isAccepted (takeStep (a + 1) l (net .zone b)) ≡ true
-        → networkSite (storedIf (receive a b) (takeStep (a + 1) l (net .zone b)) net) ≡ takeS a b l (networkSite net)
-    go [] e = absurd (false≢true e)
-    go (message cars flag ∷ l) e =
-        let x = receiveStep (net .zone b) (a + 1) cars flag in
-        ap networkSite (on-true (eqb (x .refusal) 0) (stored (receive a b) x) net e) ∙ received-site net a b cars flag e
-    go (request set ∷ l) e =
-        let x = requestStep (net .zone b) set in
-        ap networkSite (on-true (eqb (x .refusal) 0) (stored (receive a b) x) net e) ∙ requested-site net a b set num e
-refine (start a) net num e =
-    let x = startStep (net .zone a) in
-    ap networkSite (on-true (eqb (x .refusal) 0) (stored (start a) x) net e) ∙ started-site net a num e
+module _ (edition : ℕ) where
+  -- A message is sent.
+  sent-site : (net : Network) → InEdition edition net → (a b cars : ℕ) → eqb (sendStep (net .zone a) (b + 1) cars .refusal) 0 ≡ true
+      → networkSite edition (stored (send a b cars) (sendStep (net .zone a) (b + 1) cars) net) ≡ sendS a b cars (networkSite edition net)
+  sent-site net same a b cars e =
+      ap (λ (x : Step). networkSite edition (stored (send a b cars) x net)) (send-step (net .zone a) (b + 1) cars e .0)
+      ∙ site≡ _ _ refl (changed net a _ (sentUnder edition cars) (ap (λ (n : ℕ). sentUnder n cars (localOf (net .zone a))) (same a)))
+      (λ i j. refl)
+
+  -- A message is received.
+  received-site : (net : Network) → InEdition edition net → (a b cars : ℕ) (flag : Bool) → eqb (receiveStep (net .zone b) (a + 1) cars flag .refusal) 0 ≡ true
+      → networkSite edition (stored (receive a b) (receiveStep (net .zone b) (a + 1) cars flag) net) ≡ receiveS a b cars flag (networkSite edition net)
+  received-site net same a b cars flag e =
+      ap (λ (x : Step). networkSite edition (stored (receive a b) x net)) (receive-step (net .zone b) (a + 1) cars flag e .0)
+      ∙ site≡ _ _ refl
+      (changed net b _ (receivedUnder edition a cars flag)
+      (ap (λ (n : ℕ). receivedUnder n (index (a + 1)) cars flag (localOf (net .zone b))) (same b)
+      ∙ ap (λ (k : ℕ). receivedUnder edition k cars flag (localOf (net .zone b))) (index-of a (a + 1) refl)))
+      (λ i j. no-targets b i j nobody (on (eqb i a && eqb j b) tail (net .channel i j)))
+
+  -- A zone takes a permanent checkpoint ("turns firm") by the change g, and sends requests.
+  requests-site : (net : Network) (b set : ℕ) (g : Local → Local) → net .zone b .number ≡ b + 1
+      → networkSite edition (sendsRequests b (requestingStep (net .zone b)
+      (requestingAs (g (localOf (net .zone b))) (targets (index (net .zone b .number)) set (localOf (net .zone b))) (carried set (localOf (net .zone b))))) net)
+      ≡ requestAllS b g (targets b set (localOf (net .zone b))) (carried set (localOf (net .zone b))) (networkSite edition net)
+  requests-site net b set g e =
+      ap (λ (k : ℕ). networkSite edition (sendsRequests b (requestingStep (net .zone b)
+      (requestingAs (g (localOf (net .zone b))) (targets k set (localOf (net .zone b))) (carried set (localOf (net .zone b))))) net))
+      (index-of b (net .zone b .number) e)
+      ∙ site≡ _ _ refl (changed net b _ g refl)
+      (λ i j. targets-channel b i j (targets b set (localOf (net .zone b))) (carried set (localOf (net .zone b))) (net .channel i j))
+
+  -- A request is received: "a firm zone drops it".
+  requested-site : (net : Network) (a b set : ℕ) → Numbered net → eqb (requestStep (net .zone b) set .refusal) 0 ≡ true
+      → networkSite edition (stored (receive a b) (requestStep (net .zone b) set) net) ≡ requestS a b set (networkSite edition net)
+  unfolding requestedBy
+  requested-site net a b set num e =
+      ap (λ (x : Step). networkSite edition (stored (receive a b) x net)) (request-step (net .zone b) set e .0)
+      ∙ go (isPermanent (net .zone b .checkpoint))
+    where
+      go : (p : Bool)
+          → networkSite edition (sendsRequests b (requestingStep (net .zone b)
+          (cond p (requestingAs (localOf (net .zone b)) nobody nobody)
+          (requestingAs (requested (localOf (net .zone b))) (targets (index (net .zone b .number)) set (localOf (net .zone b)))
+          (carried set (localOf (net .zone b))))))
+          (withoutFirst a b net))
+          ≡ on (not p) (turnS b set) (popS a b (networkSite edition net))
+      go true = site≡ _ _ refl (λ k. changed net b _ (λ y. y) refl k ∙ idle (eqb k b) (localOf (net .zone k)))
+          (λ i j. no-targets b i j nobody (on (eqb i a && eqb j b) tail (net .channel i j)))
+        where
+          idle : (p : Bool) (y : Local) → on p (λ y. y) y ≡ y
+          idle true y = refl
+          idle false y = refl
+      go false = requests-site (withoutFirst a b net) b set requested (num b)
+
+  -- A recording is started.
+  started-site : (net : Network) (a : ℕ) → Numbered net → eqb (startStep (net .zone a) .refusal) 0 ≡ true
+      → networkSite edition (stored (start a) (startStep (net .zone a)) net) ≡ startS a (networkSite edition net)
+  unfolding startedBy
+  started-site net a num e =
+      ap (λ (x : Step). networkSite edition (stored (start a) x net)) (start-step (net .zone a) e .0) ∙ requests-site net a nobody started (num a)
+
+  -- An accepted call does to the network what the rules say of the site that it stands for.
+  pub refine : (c : Call) (net : Network) → Numbered net → InEdition edition net → isAccepted (answer c net) ≡ true → networkSite edition (made c net) ≡ stepS c (networkSite edition net)
+  refine (send a b cars) net num same e =
+      let x = sendStep (net .zone a) (b + 1) cars in
+      ap (networkSite edition) (on-true (eqb (x .refusal) 0) (stored (send a b cars) x) net e) ∙ sent-site net same a b cars e
+  refine (receive a b) net num same e = go (net .channel a b) e
+    where
+      go : (l : List Item) → isAccepted (takeStep (a + 1) l (net .zone b)) ≡ true
+          → networkSite edition (storedIf (receive a b) (takeStep (a + 1) l (net .zone b)) net) ≡ takeS a b l (networkSite edition net)
+      go [] e = absurd (false≢true e)
+      go (message cars flag ∷ l) e =
+          let x = receiveStep (net .zone b) (a + 1) cars flag in
+          ap (networkSite edition) (on-true (eqb (x .refusal) 0) (stored (receive a b) x) net e) ∙ received-site net same a b cars flag e
+      go (request set ∷ l) e =
+          let x = requestStep (net .zone b) set in
+          ap (networkSite edition) (on-true (eqb (x .refusal) 0) (stored (receive a b) x) net e) ∙ requested-site net a b set num e
+  refine (start a) net num same e =
+      let x = startStep (net .zone a) in
+      ap (networkSite edition) (on-true (eqb (x .refusal) 0) (stored (start a) x) net e) ∙ started-site net a num e
 
 -- What an accepted call shows: the stock covers the cars; the channel holds an item. A start shows only of its own
 -- zone that it has no checkpoint, so that nothing is claimed of it here.
@@ -264,6 +256,9 @@ module _ (f : Zone → ℕ) (fixed : (z : Zone) (l : Local) → f (withLocal z l
 pub numbered : (net : Network) → Numbered net → (c : Call) → Numbered (made c net)
 numbered net num c = call-keeps (λ z. z .number) (λ z l. refl) (λ k. k + 1) net num c
 
+edition-kept : {edition : ℕ} (net : Network) → InEdition edition net → (c : Call) → InEdition edition (made c net)
+edition-kept {edition} net same c = call-keeps (λ z. z .edition) (λ z l. refl) (λ k. edition) net same c
+
 -- The number of starts accepted before.
 abbrev startsBefore : Option ℕ → ℕ
 startsBefore none = 0
@@ -275,11 +270,11 @@ no-checkpoint-not-permanent (Mutable s) e = refl
 no-checkpoint-not-permanent (Permanent s) e = e
 
 -- An accepted call is one that the rules allow, where no start is a second one.
-allowed-call : (c : Call) (rest : List Call) (net : Network) (h : History) → Fresh h → networkSite net ≡ h .now
+allowed-call : (edition : ℕ) (c : Call) (rest : List Call) (net : Network) (h : History) → Fresh h → networkSite edition net ≡ h .now
     → startsBefore (h .initiator) + startsIn (c ∷ rest) ≤ 1 → Shows c net → May c (h .now)
-allowed-call (send a b cars) rest net h f e one w = subst (May (send a b cars)) e w
-allowed-call (receive a b) rest net h f e one w = subst (May (receive a b)) e w
-allowed-call (start a) rest net h f e one w = go (h .initiator) refl one
+allowed-call edition (send a b cars) rest net h f e one w = subst (May (send a b cars)) e w
+allowed-call edition (receive a b) rest net h f e one w = subst (May (receive a b)) e w
+allowed-call edition (start a) rest net h f e one w = go (h .initiator) refl one
   where
     go : (o : Option ℕ) → h .initiator ≡ o → startsBefore o + suc (startsIn rest) ≤ 1 → May (start a) (h .now)
     go none q one = λ z. no-checkpoint-not-permanent (h .now .zone z .checkpoint) (f .no-checkpoint q z)
@@ -292,31 +287,32 @@ one-left (receive a b) rest o one = one
 one-left (start a) rest none one = omega arith
 one-left (start a) rest (some x) one = absurd (omega arith)
 
--- The network follows the rules over its accepted calls.
-abbrev Follows : List Call → Network → Site → Type 0
-Follows cs net s = Allowed (acceptedCalls cs net) s × (networkSite (after cs net) ≡ run (acceptedCalls cs net) s)
+module _ (edition : ℕ) where
+  -- The network follows the rules over its accepted calls.
+  abbrev Follows : List Call → Network → Site → Type 0
+  Follows cs net s = Allowed (acceptedCalls cs net) s × (networkSite edition (after cs net) ≡ run (acceptedCalls cs net) s)
 
-follows : (cs : List Call) (net : Network) (h : History) → Numbered net → Fresh h → networkSite net ≡ h .now
-    → startsBefore (h .initiator) + startsIn (acceptedCalls cs net) ≤ 1 → Follows cs net (h .now)
-follows [] net h num f e one = (tt, e)
-follows (c ∷ cs) net h num f e one = go (λ t. follows cs (made c net) t (numbered net num c)) (isAccepted (answer c net)) refl one
-  where
-    go : ((t : History) → Fresh t → networkSite (made c net) ≡ t .now → startsBefore (t .initiator) + startsIn (acceptedCalls cs (made c net)) ≤ 1
-        → Follows cs (made c net) (t .now))
-        → (p : Bool) → isAccepted (answer c net) ≡ p
-        → startsBefore (h .initiator) + startsIn (cons-if p c (acceptedCalls cs (made c net))) ≤ 1
-        → Allowed (cons-if p c (acceptedCalls cs (made c net))) (h .now)
-        × (networkSite (after cs (made c net)) ≡ run (cons-if p c (acceptedCalls cs (made c net))) (h .now))
-    go ih true q one =
-        let may = allowed-call c (acceptedCalls cs (made c net)) net h f e one (shows c net q) in
-        let r = ih (stepH c h) (fresh-call c h f may) (refine c net num q ∙ ap (stepS c) e)
-        (one-left c (acceptedCalls cs (made c net)) (h .initiator) one) in
-        ((may, r .0), r .1)
-    go ih false q one = ih h f (ap networkSite (refused-kept c net q) ∙ e) one
+  follows : (cs : List Call) (net : Network) (h : History) → Numbered net → InEdition edition net → Fresh h → networkSite edition net ≡ h .now
+      → startsBefore (h .initiator) + startsIn (acceptedCalls cs net) ≤ 1 → Follows cs net (h .now)
+  follows [] net h num same f e one = (tt, e)
+  follows (c ∷ cs) net h num same f e one = go (λ t. follows cs (made c net) t (numbered net num c) (edition-kept net same c)) (isAccepted (answer c net)) refl one
+    where
+      go : ((t : History) → Fresh t → networkSite edition (made c net) ≡ t .now → startsBefore (t .initiator) + startsIn (acceptedCalls cs (made c net)) ≤ 1
+          → Follows cs (made c net) (t .now))
+          → (p : Bool) → isAccepted (answer c net) ≡ p
+          → startsBefore (h .initiator) + startsIn (cons-if p c (acceptedCalls cs (made c net))) ≤ 1
+          → Allowed (cons-if p c (acceptedCalls cs (made c net))) (h .now)
+          × (networkSite edition (after cs (made c net)) ≡ run (cons-if p c (acceptedCalls cs (made c net))) (h .now))
+      go ih true q one =
+          let may = allowed-call edition c (acceptedCalls cs (made c net)) net h f e one (shows c net q) in
+          let r = ih (stepH c h) (fresh-call c h f may) (refine edition c net num same q ∙ ap (stepS c) e)
+          (one-left c (acceptedCalls cs (made c net)) (h .initiator) one) in
+          ((may, r .0), r .1)
+      go ih false q one = ih h f (ap (networkSite edition) (refused-kept c net q) ∙ e) one
 
 -- The opening is that of the rules.
-opening : (n : ℕ) (o : Opening) → networkSite (openNetwork n o) ≡ openS o
-opening n o = site≡ _ _ (λ k. ap (λ (i : ℕ). opened i (o .stocks k)) (index-of k (k + 1) refl)) (λ i j. refl)
+opening : (n : ℕ) (o : Opening) → networkSite (o .edition) (openNetwork n o) ≡ openS o
+opening n o = site≡ _ _ refl (λ k. ap (λ (i : ℕ). opened i (o .stocks k)) (index-of k (k + 1) refl)) (λ i j. refl)
 
 -- Whatever the zone count, the opening and the calls, if at most one start was accepted.
 module _ (n : ℕ) (o : Opening) (cs : List Call) (one : startsIn (acceptedCalls cs (openNetwork n o)) ≤ 1) where
@@ -328,14 +324,14 @@ module _ (n : ℕ) (o : Opening) (cs : List Call) (one : startsIn (acceptedCalls
   ones = acceptedCalls cs (openNetwork n o)
 
   -- The accepted calls are such as the rules allow, and lead the rules to the zones and channels that the network has.
-  pub network-follows : Allowed ones (openS o) × (networkSite net ≡ run ones (openS o))
-  network-follows = follows cs (openNetwork n o) (openH o) (λ k. refl) (fresh-open o) (opening n o) (omega arith)
+  pub network-follows : Allowed ones (openS o) × (networkSite (o .edition) net ≡ run ones (openS o))
+  network-follows = follows (o .edition) cs (openNetwork n o) (openH o) (λ k. refl) (λ k. refl) (fresh-open o) (opening n o) (omega arith)
 
   -- So, when the recording is complete, what the rules show is a consistent cut of the accepted calls: demand 3 over the maker's own
   -- channels.
-  pub network-consistent : Complete (networkSite net) → Cut o ones (snapshot o ones)
+  pub network-consistent : Complete (networkSite (o .edition) net) → Cut o ones (snapshot o ones)
   network-consistent done = consistent o ones (network-follows .0) (subst Complete (network-follows .1) done)
 
   -- What the network's own zones show is what the rules show: the recorded zones, their events and stocks, and the lines by these events.
-  pub network-shows : shownBy o ones (networkSite net) ≡ snapshot o ones
+  pub network-shows : shownBy o ones (networkSite (o .edition) net) ≡ snapshot o ones
   network-shows = ap (shownBy o ones) (network-follows .1)

@@ -1,11 +1,12 @@
 -- A zone part that was opened is the network's, and a zone whose number is above the count takes part in no call.
 use mathlib.Core.Path.{_≡_, refl, ap}
-use mathlib.Core.Bool.{Bool, true, false, and-false}
+use mathlib.Core.Bool.{Bool, true, false, _&&_, and-false}
 use mathlib.Core.List.{List, [], _∷_}
 use Prim.Native.Nat.{ℕ, _+_, _≤_}
 use native.Mathlib.Omega.{arith}
 use lib.Dec.{eqb, leb}
 use borrow.Author.Tests.{leb-true}
+use Rattle.rules.specs.Edition.{firstEdition, isEdition}
 use Rattle.rules.specs.Opening.{Opening}
 use Rattle.rules.specs.Questions.{question, isCount, isOn}
 use Rattle.rules.specs.Site.{Item, message, request, Call, send, receive, start}
@@ -17,19 +18,21 @@ use Rattle.network.specs.Polls.{stepOf}
 use Rattle.network.proofs.Network.{ask-accepted, Numbered, numbered, call-keeps}
 
 -- An accepted opening hands back the zone that the network has at that index.
-pub opened-zone : (n : ℕ) (o : Opening) (k : ℕ) → openZone n (k + 1) (o .stocks k) .refusal ≡ 0
-    → openZone n (k + 1) (o .stocks k) .zone ≡ openNetwork n o .zone k
+pub opened-zone : (n : ℕ) (o : Opening) (k : ℕ) → openZone (o .edition) n (k + 1) (o .stocks k) .refusal ≡ 0
+    → openZone (o .edition) n (k + 1) (o .stocks k) .zone ≡ openNetwork n o .zone k
 unfolding openZone
 opened-zone n o k e = ap (λ (x : ZoneOpened). x .zone)
-    (ask-accepted (λ (x : ZoneOpened). x .refusal) (question 2 (isCount n) ∷ question 5 (isOn n (k + 1)) ∷ [])
-    (λ m. record { refusal = m; zone = openedZone 2 1 0 }) (record { refusal = 0; zone = openedZone n (k + 1) (o .stocks k) })
+    (ask-accepted (λ (x : ZoneOpened). x .refusal)
+    (question 15 (isEdition (o .edition)) ∷ question 2 (isCount n) ∷ question 5 (isOn n (k + 1)) ∷ [])
+    (λ m. record { refusal = m; zone = openedZone firstEdition 2 1 0 })
+    (record { refusal = 0; zone = openedZone (o .edition) n (k + 1) (o .stocks k) })
     (λ m. refl) refl e .1)
 
 unsound : (z : Zone) (n k : ℕ) → z .number ≡ k + 1 → z .count ≡ n → n ≤ k → isZoneSound z ≡ false
 unfolding isZoneSound isOn
 unsound z n k e f h =
     let q = above (leb (z .number) (z .count)) refl in
-    rw (q, and-false (leb 1 (z .number)), and-false (isCount (z .count)))
+    rw (q, and-false (leb 1 (z .number)), and-false (isEdition (z .edition) && isCount (z .count)))
   where
     above : (p : Bool) → leb (z .number) (z .count) ≡ p → p ≡ false
     above true q = let w = leb-true (z .number) (z .count) q in absurd (omega arith)

@@ -218,16 +218,16 @@ module _ (n : ℕ) (o : Opening) (cs : List Call) (one : startsIn (acceptedCalls
       go (inl h) (inr q) = polled-other k h (q .0)
 
   -- The recording is complete after the calls.
-  pub settled-complete : Complete (networkSite (after cs (openNetwork n o)))
+  pub settled-complete : Complete (networkSite (o .edition) (after cs (openNetwork n o)))
   settled-complete = (
     (known, shown-permanent (at (second known)) end known (ends .1) ∙ settled .some-permanent .2),
     λ i j. waits-none (end .channel i j) (none-anywhere n end (ends .0 .site) (ends .0 .none-waits) i j),
   )
 
   -- What the collector read in the second round shows what the rules show: the recorded zones, their events and stocks, and the lines.
-  pub settled-shows : shownBy o ones (polledSite (λ k. polledAt cs (openNetwork n o) (second k) k)) ≡ snapshot o ones
-  settled-shows = shown-same o ones (polledSite polls) (networkSite end) polled ∙ network-shows n o cs one
+  pub settled-shows : shownBy o ones (polledSite (o .edition) (λ k. polledAt cs (openNetwork n o) (second k) k)) ≡ snapshot o ones
+  settled-shows = shown-same o ones (polledSite (o .edition) polls) (networkSite (o .edition) end) polled ∙ network-shows n o cs one
 
   -- So it is a consistent cut of the accepted calls: demand 3.
-  pub settled-cut : Cut o ones (shownBy o ones (polledSite (λ k. polledAt cs (openNetwork n o) (second k) k)))
+  pub settled-cut : Cut o ones (shownBy o ones (polledSite (o .edition) (λ k. polledAt cs (openNetwork n o) (second k) k)))
   settled-cut = subst (Cut o ones) (sym settled-shows) (network-consistent n o cs one settled-complete)

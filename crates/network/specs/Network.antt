@@ -19,10 +19,10 @@ pub record Network : Type 0 where
   pub zone : ℕ → Zone
   pub channel : ℕ → ℕ → List Item
 
--- The network of an opening: its zones, as zones of a site of so many, and empty channels. No zone part is opened for a number above
--- the count; here such a zone refuses every step.
+-- The network of an opening: its zones, as zones of a site of so many, each opened in the opening's edition, and empty channels. No zone
+-- part is opened for a number above the count, and none in an edition that is not defined; here such a zone refuses every step.
 abbrev pub openNetwork : ℕ → Opening → Network
-openNetwork count o = record { zone = λ k. openedZone count (k + 1) (o .stocks k); channel = λ i j. [] }
+openNetwork count o = record { zone = λ k. openedZone (o .edition) count (k + 1) (o .stocks k); channel = λ i j. [] }
 
 -- What the zone part answers to the first item of a channel from the zone of this number; none: the channel is empty.
 abbrev pub takeStep : ℕ → List Item → Zone → Option Step
@@ -87,6 +87,7 @@ startsIn (send a b cars ∷ cs) = startsIn cs
 startsIn (receive a b ∷ cs) = startsIn cs
 startsIn (start a ∷ cs) = suc (startsIn cs)
 
--- The site of the rules that a network stands for. What is shown of its accepted calls is what the rules show: `snapshot`.
-abbrev pub networkSite : Network → Site
-networkSite net = record { zone = λ k. localOf (net .zone k); channel = net .channel }
+-- The site of the rules that a network stands for, whose zones were opened in this edition. What is shown of its accepted calls is what the
+-- rules show: `snapshot`.
+abbrev pub networkSite : ℕ → Network → Site
+networkSite edition net = record { edition = edition; zone = λ k. localOf (net .zone k); channel = net .channel }

@@ -78,6 +78,6 @@ pub record Settled (n : ℕ) (first second : ℕ → Poll) : Type 0 where
   pub all-taken : sumBelow n (λ k. second k .sent) ≡ sumBelow n (λ k. second k .taken)
   pub some-permanent : (k : ℕ) × (k < n) × (isPermanent (second k .zone .checkpoint) ≡ true)
 
--- The zones as they were polled, for `shownBy`, which looks at no channel of a site.
-abbrev pub polledSite : (ℕ → Poll) → Site
-polledSite polls = record { zone = λ k. localOf (polls k .zone); channel = λ i j. [] }
+-- The zones as they were polled, in the edition that they were opened in, for `shownBy`, which looks at no channel of a site.
+abbrev pub polledSite : ℕ → (ℕ → Poll) → Site
+polledSite edition polls = record { edition = edition; zone = λ k. localOf (polls k .zone); channel = λ i j. [] }
