@@ -75,7 +75,11 @@ sent-answered z to cars e = subst (Answered z false) (sym (send-step z to cars e
 received-answered : (z : Zone) (from cars : ℕ) (flag : Bool) → eqb (receiveStep z from cars flag .refusal) 0 ≡ true
     → Answered z false (receiveStep z from cars flag)
 received-answered z from cars flag e = subst (Answered z false) (sym (receive-step z from cars flag e .0))
-    (record { to-within = pow-pos (z .count); shown-kept = λ _. traffic-shown (z .edition) cars (received (index from) cars flag) z (kept (z .checkpoint) _ flag); none-sent = λ _. refl })
+    (record {
+      to-within = pow-pos (z .count);
+      shown-kept = λ _. traffic-shown (z .edition) cars (received (index from) cars flag) z (kept (z .checkpoint) _ flag);
+      none-sent = λ _. refl;
+    })
   where
     kept : (k : Checkpoint) (now : Saved) (flag : Bool) → shown (checkpointAfter k now flag) ≡ shown k
     kept None now true = refl
@@ -87,7 +91,8 @@ received-answered z from cars flag e = subst (Answered z false) (sym (receive-st
 deps-within : (z : Zone) → isZoneSound z ≡ true → z .deps < 2 ^ z .count
 unfolding isZoneSound
 deps-within z e =
-    ltb-true (z .deps) (2 ^ z .count) (and-right (isEdition (z .edition) && isCount (z .count) && isOn (z .count) (z .number)) _ (and-left _ _ (and-left _ _ e)))
+    ltb-true (z .deps) (2 ^ z .count)
+    (and-right (isEdition (z .edition) && isCount (z .count) && isOn (z .count) (z .number)) _ (and-left _ _ (and-left _ _ e)))
 
 -- A zone that was not permanent sends requests to zones that it depends on.
 turned-answered : (z : Zone) (l : Local) (me set more : ℕ) → isZoneSound z ≡ true → isPermanent (z .checkpoint) ≡ false

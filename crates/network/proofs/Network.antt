@@ -48,7 +48,8 @@ passed qs z x n e = ask-accepted (λ (s : Step). s .refusal) qs (refused z) x (�
 
 -- What an accepted step answers, and what its questions said.
 pub send-step : (z : Zone) (to cars : ℕ) → eqb (sendStep z to cars .refusal) 0 ≡ true
-    → (sendStep z to cars ≡ accepted (withLocal z (sentUnder (z .edition) cars (localOf z))) (hasCheckpoint (z .checkpoint)) nobody nobody) × (isOther z to ≡ true)
+    → (sendStep z to cars ≡ accepted (withLocal z (sentUnder (z .edition) cars (localOf z))) (hasCheckpoint (z .checkpoint)) nobody nobody)
+    × (isOther z to ≡ true)
     × (cars ≤ z .stock)
 unfolding sendStep
 send-step z to cars e =
@@ -87,7 +88,7 @@ abbrev pub Numbered : Network → Type 0
 Numbered net = (k : ℕ) → net .zone k .number ≡ k + 1
 
 -- All zones have this edition.
-abbrev InEdition : ℕ → Network → Type 0
+abbrev pub InEdition : ℕ → Network → Type 0
 InEdition edition net = (k : ℕ) → net .zone k .edition ≡ edition
 
 index-of : (k n : ℕ) → n ≡ k + 1 → index n ≡ k
@@ -121,6 +122,7 @@ refused-kept c net = go (answer c net)
     go none e = refl
     go (some x) e = on-false (eqb (x .refusal) 0) (stored c x) net e
 
+-- Whatever the edition that all zones have.
 module _ (edition : ℕ) where
   -- A message is sent.
   sent-site : (net : Network) → InEdition edition net → (a b cars : ℕ) → eqb (sendStep (net .zone a) (b + 1) cars .refusal) 0 ≡ true
@@ -131,7 +133,8 @@ module _ (edition : ℕ) where
       (λ i j. refl)
 
   -- A message is received.
-  received-site : (net : Network) → InEdition edition net → (a b cars : ℕ) (flag : Bool) → eqb (receiveStep (net .zone b) (a + 1) cars flag .refusal) 0 ≡ true
+  received-site : (net : Network) → InEdition edition net → (a b cars : ℕ) (flag : Bool)
+      → eqb (receiveStep (net .zone b) (a + 1) cars flag .refusal) 0 ≡ true
       → networkSite edition (stored (receive a b) (receiveStep (net .zone b) (a + 1) cars flag) net) ≡ receiveS a b cars flag (networkSite edition net)
   received-site net same a b cars flag e =
       ap (λ (x : Step). networkSite edition (stored (receive a b) x net)) (receive-step (net .zone b) (a + 1) cars flag e .0)
@@ -184,7 +187,8 @@ module _ (edition : ℕ) where
       ap (λ (x : Step). networkSite edition (stored (start a) x net)) (start-step (net .zone a) e .0) ∙ requests-site net a nobody started (num a)
 
   -- An accepted call does to the network what the rules say of the site that it stands for.
-  pub refine : (c : Call) (net : Network) → Numbered net → InEdition edition net → isAccepted (answer c net) ≡ true → networkSite edition (made c net) ≡ stepS c (networkSite edition net)
+  pub refine : (c : Call) (net : Network) → Numbered net → InEdition edition net → isAccepted (answer c net) ≡ true
+      → networkSite edition (made c net) ≡ stepS c (networkSite edition net)
   refine (send a b cars) net num same e =
       let x = sendStep (net .zone a) (b + 1) cars in
       ap (networkSite edition) (on-true (eqb (x .refusal) 0) (stored (send a b cars) x) net e) ∙ sent-site net same a b cars e
@@ -295,7 +299,8 @@ module _ (edition : ℕ) where
   follows : (cs : List Call) (net : Network) (h : History) → Numbered net → InEdition edition net → Fresh h → networkSite edition net ≡ h .now
       → startsBefore (h .initiator) + startsIn (acceptedCalls cs net) ≤ 1 → Follows cs net (h .now)
   follows [] net h num same f e one = (tt, e)
-  follows (c ∷ cs) net h num same f e one = go (λ t. follows cs (made c net) t (numbered net num c) (edition-kept net same c)) (isAccepted (answer c net)) refl one
+  follows (c ∷ cs) net h num same f e one =
+      go (λ t. follows cs (made c net) t (numbered net num c) (edition-kept net same c)) (isAccepted (answer c net)) refl one
     where
       go : ((t : History) → Fresh t → networkSite edition (made c net) ≡ t .now → startsBefore (t .initiator) + startsIn (acceptedCalls cs (made c net)) ≤ 1
           → Follows cs (made c net) (t .now))

@@ -16,7 +16,8 @@ use Rattle.zone.specs.declared.Zone.{Zone}
 use Rattle.zone.proofs.Asks.{sendAsks, receiveAsks, requestAsks, startAsks}
 
 -- What an accepted step keeps of the zone, the step keeps, whatever its questions.
-step-keeps : {A : Type 0} (f : Zone → A) (qs : List Question) (z : Zone) (x : Step) → f (x .zone) ≡ f z → f (ask qs (refused z) x .zone) ≡ f z
+step-keeps : {A : Type 0} (f : Zone → A) (qs : List Question) (z : Zone) (x : Step) → f (x .zone) ≡ f z
+    → f (ask qs (refused z) x .zone) ≡ f z
 step-keeps f [] z x e = e
 step-keeps {A} f (q ∷ qs) z x e = go (q .yes) (step-keeps f qs z x e)
   where

@@ -40,8 +40,7 @@ isOther z zone = isOn (z .count) zone && not (eqb zone (z .number))
 unfoldable pub isZoneSound : Zone → Bool
 isZoneSound z =
     isEdition (z .edition) && isCount (z .count) && isOn (z .count) (z .number) && within (z .deps) (z .count)
-    && leb (z .stock) mostCars
-    && leb (z .events) mostRecords
+    && leb (z .stock) mostCars && leb (z .events) mostRecords
 
 -- Question 6, "There, 6 counts own events".
 abbrev pub hasRoom : Zone → Bool
@@ -80,16 +79,16 @@ accepted z flag to carried = record { refusal = 0; zone = z; flag = flag; to = t
 abbrev pub requestingStep : Zone → Requesting → Step
 requestingStep z a = accepted (withLocal z (a .local)) false (a .to) (a .carried)
 
--- "Send: 1, 5, 6, 7." It names the receiver and answers the flag ("marked bit"). From edition 2 on a hand-over of 0 cars "is no own event",
--- whatever the list asks.
+-- "Send: 1, 5, 6, 7." It names the receiver and answers the flag ("marked bit"). From edition 2 on a hand-over of 0 cars "is carried and
+-- journalled, but it is no own event"; the questions are the same, 6 too.
 unfoldable pub sendStep : Zone → ℕ → ℕ → Step
 sendStep z to cars =
     ask (question 1 (isZoneSound z) ∷ question 5 (isOther z to) ∷ question 6 (hasRoom z) ∷ question 7 (leb cars (z .stock)) ∷ [])
     (refused z)
     (accepted (withLocal z (sentUnder (z .edition) cars (localOf z))) (hasCheckpoint (z .checkpoint)) nobody nobody)
 
--- "Take a hand-over: 1, 5, 6, 20." It names the sender. From edition 2 on one of 0 cars "is no own event, adds nothing to a heard set,
--- causes no mark".
+-- "Take a hand-over: 1, 5, 6, 20." It names the sender. From edition 2 on taking one of 0 cars "is no own event, adds nothing to a heard
+-- set, causes no mark"; the questions are the same.
 unfoldable pub receiveStep : Zone → ℕ → ℕ → Bool → Step
 receiveStep z from cars flag =
     ask (question 1 (isZoneSound z) ∷ question 5 (isOther z from) ∷ question 6 (hasRoom z) ∷ question 20 (leb (z .stock + cars) mostCars) ∷ [])

@@ -22,8 +22,8 @@ use rules::Local;
 use rules::MOST_CARS;
 use rules::MOST_RECORDS;
 
-// One zone: its edition, its number and the zone count of its site, its stock, its dependency set ("heard set": the zone numbered k is the bit of
-// weight 2 to the power k - 1), its own events and its checkpoint ("mark").
+// One zone: its edition, its number and the zone count of its site, its stock, its dependency set ("heard set": the zone numbered k is
+// the bit of weight 2 to the power k - 1), its own events and its checkpoint ("mark").
 pub struct Zone {
     pub edition: u8,
     pub number: u8,
@@ -63,7 +63,7 @@ fn refused(zone: Zone, n: u8) -> Step
 }
 
 impl Zone {
-    // A zone at first, with its stock.
+    // A zone at first, in its edition and with its stock.
     pub fn open(edition: u8, count: u8, number: u8, stock: u16) -> ZoneOpened
         ensures { λ r. ⌜ r ≡ openZone edition count number stock ⌝ }
     {

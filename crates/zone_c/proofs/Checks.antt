@@ -6,6 +6,7 @@ use Prim.Native.Nat.{ℕ, _≤_}
 use native.Mathlib.Omega.{arith}
 use lib.Dec.{ltb, eqb}
 use borrow.Author.Tests.{eqb-true, eqb-false, ltb-false}
+use Rattle.rules.specs.declared.Saved.{Saved}
 use Rattle.rules.specs.declared.Checkpoint.the-variants.{None, Mutable, Permanent}
 use Rattle.zone.specs.Zone.{sendStep, receiveStep}
 use Rattle.zone.specs.declared.Step.{Step}
@@ -46,8 +47,10 @@ saved-is : (kind : ℕ) (s : PlainSaved) → savedOf (markOf kind s) ≡ cond (e
 unfolding markOf
 saved-is kind s = go (eqb kind 0) (eqb kind 1)
   where
-    go : (a b : Bool) → savedOf (cond a None (cond b (Mutable (record { stock = s .stock; events = s .events })) (Permanent (record { stock = s .stock; events = s .events }))))
-        ≡ cond a (record { stock = 0; events = 0 }) s
+    keeps : Saved
+    keeps = record { stock = s .stock; events = s .events }
+
+    go : (a b : Bool) → savedOf (cond a None (cond b (Mutable keeps) (Permanent keeps))) ≡ cond a (record { stock = 0; events = 0 }) s
     go true b = refl
     go false true = refl
     go false false = refl
