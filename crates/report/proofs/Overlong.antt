@@ -19,7 +19,7 @@ use Rattle.report.specs.Report.{outputText, reportText}
 -- What the reader answers of a journal with this header that is longer than any header tells.
 abbrev overlong : ℕ → Reading
 overlong header =
-    cond (eqb (editionIn header) 1) (cond (leb 2 (zonesIn header) && leb (numberIn header) 1000) (unread 0 17) (unread 0 16)) (unread 0 15)
+    cond (isEdition (editionIn header)) (cond (leb 2 (zonesIn header) && leb (numberIn header) 1000) (unread 0 17) (unread 0 16)) (unread 0 15)
 
 overlong-read : (bytes : List ℕ) → 2019 ≤ length bytes → readCall bytes ≡ overlong (wordAt bytes 0)
 unfolding readCall

@@ -7,7 +7,7 @@ use lib.ListN.{getD}
 use Rattle.rules.specs.Below.{allBelow, listBelow}
 use Rattle.rules.specs.Limits.{mostZones}
 use Rattle.rules.specs.declared.Local.{Local}
-use Rattle.run.specs.State.{headAs, locals, countOf, noLocal}
+use Rattle.run.specs.State.{headAs, locals, editionOf, countOf, noLocal}
 use Rattle.run.specs.declared.Answer.{Answer}
 use Rattle.run.specs.declared.Run.{Run}
 use Rattle.journal.specs.Reading.{readCall}
@@ -59,11 +59,12 @@ unfoldable pub areKinds : List PlainLocal → Bool
 areKinds zones = allBelow mostZones (λ i. leb (plainAt zones i .mark) 2)
 
 abbrev pub headOf : PlainHead → Head
-headOf p = headAs (openingAs (termsAs (p .count)) (p .opening)) (p .records) (localsOf (p .zones))
+headOf p = headAs (openingAs (termsAs (p .edition) (p .count)) (p .opening)) (p .records) (localsOf (p .zones))
 
 abbrev pub plainHead : Head → PlainHead
 plainHead h = record {
   count = countOf h;
+  edition = editionOf h;
   records = h .records;
   zones = plainLocals (locals h);
   opening = h .opening .stocks;
@@ -98,9 +99,9 @@ answerIn t items lens journal = record { refusal = t .refusal; run = plainIn (t 
 abbrev pub ifKinds : PlainRun → PlainAnswer → PlainAnswer
 ifKinds p a = cond (areKinds (p .head .zones)) a (refusedPlain p 1)
 
--- A refused opening hands back a run too: 2 zones with stock 0.
-abbrev pub openPlain : ℕ → List ℕ → PlainAnswer
-openPlain count stocks = plainAnswer (openCall (openingAs (termsAs count) stocks))
+-- A refused opening hands back a run too: 2 zones with stock 0, in edition 1.
+abbrev pub openPlain : ℕ → ℕ → List ℕ → PlainAnswer
+openPlain edition count stocks = plainAnswer (openCall (openingAs (termsAs edition count) stocks))
 
 -- A call with any arguments, and the run after a list of them, refused ones included.
 unfoldable pub callPlain : SiteCall → PlainRun → PlainAnswer
