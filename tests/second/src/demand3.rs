@@ -1,9 +1,9 @@
 //! A checker of demand 3 (docs/RULES.md, demand 3) by replay in the plain car park.
 //!
-//! It looks at a run from outside only: the opening stocks, the calls with their numbers, the
-//! recording call's number and bytes, and the present stocks and lines. What each accepted
-//! receipt takes and when a zone is marked is worked out here, by the rules, with sets of zone
-//! numbers and none of the site engine's code.
+//! It looks at a run from outside only: the edition, the opening stocks, the calls with their
+//! numbers, the recording call's number and bytes, and the present stocks and lines. What each
+//! accepted receipt takes, which of it is traffic and when a zone is marked is worked out here, by
+//! the rules, with sets of zone numbers and none of the site engine's code.
 
 use crate::print::MOST_BYTES;
 use crate::recording;
@@ -16,13 +16,15 @@ pub type Lines = Vec<Vec<Vec<u8>>>;
 /// What is seen of a run from outside.
 #[derive(Clone, Debug)]
 pub struct Seen {
+    pub edition: u32,
     pub opening: Vec<u16>,
     pub calls: Vec<(Call, u32)>,
     /// The number that the recording call answered after the list.
     pub answer: u32,
     /// The bytes that it wrote.
     pub bytes: Vec<u8>,
-    /// The present stocks and lines, requests and marked bits left out.
+    /// The present stocks and lines, requests and marked bits left out; line checks may stand on
+    /// the lines, and are left out here.
     pub stocks: Vec<u64>,
     pub lines: Lines,
 }
@@ -52,6 +54,24 @@ pub enum Finding {
     /// A zone that is not recorded is not shown with its opening stock and 0 events. This is
     /// docs/RULES.md, section 5; the replays miss it where the zone has no further events.
     Unrecorded,
+    /// A line check is shown. This is docs/RULES.md, section 5; demand 3 reads the recorded lines
+    /// without checks.
+    CheckShown,
+}
+
+/// Says whether a hand-over is a line check, which is no event and is left out of every line.
+fn is_check(edition: u32, cars: u8) -> bool {
+    edition == 2 && cars == 0
+}
+
+/// The lines read without checks.
+fn without_checks(edition: u32, lines: &Lines) -> Lines {
+    let kept = |line: &Vec<u8>| -> Vec<u8> {
+        let cars = line.iter().copied();
+        cars.filter(|&cars| !is_check(edition, cars)).collect()
+    };
+    let row = |row: &Vec<Vec<u8>>| row.iter().map(kept).collect();
+    lines.iter().map(row).collect()
 }
 
 /// An own event of a zone, and its count among that zone's own events.
@@ -83,14 +103,17 @@ pub struct Account {
     pub by_rules: bool,
 }
 
-/// An item on a line of the rules: a hand-over with its marked bit or a request with its set.
+/// An item on a line of the rules: a hand-over with its marked bit, a line check or a request with
+/// its set.
 enum Item {
     HandOver(bool),
+    Check,
     Request(BTreeSet<usize>),
 }
 
 /// The rules (docs/RULES.md, section 4) without stocks, questions and full lines.
 struct Rules {
+    edition: u32,
     heard: Vec<BTreeSet<usize>>,
     firm: Vec<bool>,
     lines: Vec<Vec<VecDeque<Item>>>,
@@ -100,8 +123,9 @@ struct Rules {
 }
 
 impl Rules {
-    fn new(zones: usize) -> Rules {
+    fn new(edition: u32, zones: usize) -> Rules {
         Rules {
+            edition,
             heard: (0..zones).map(|zone| BTreeSet::from([zone])).collect(),
             firm: vec![false; zones],
             lines: empty_table(zones),
@@ -130,20 +154,13 @@ impl Rules {
                 if from == to {
                     return None;
                 }
-                self.lines[from][to].push_back(Item::HandOver(self.account.marks[from].is_some()));
-                self.counts[from] += 1;
-                let count = self.counts[from];
-                self.account.events.push(Event::Sent {
-                    from,
-                    to,
-                    cars,
-                    count,
-                });
+                self.send(from, to, cars);
             }
             Call::Receipt { from, to } => {
                 let (from, to) = (self.index(from)?, self.index(to)?);
                 match self.lines[from][to].pop_front()? {
                     Item::HandOver(marked) => self.take(from, to, marked),
+                    Item::Check => (),
                     Item::Request(set) => self.request(to, set),
                 }
             }
@@ -160,6 +177,22 @@ impl Rules {
             }
         }
         Some(())
+    }
+
+    fn send(&mut self, from: usize, to: usize, cars: u8) {
+        if is_check(self.edition, cars) {
+            self.lines[from][to].push_back(Item::Check);
+            return;
+        }
+        self.lines[from][to].push_back(Item::HandOver(self.account.marks[from].is_some()));
+        self.counts[from] += 1;
+        let count = self.counts[from];
+        self.account.events.push(Event::Sent {
+            from,
+            to,
+            cars,
+            count,
+        });
     }
 
     fn take(&mut self, from: usize, to: usize, marked: bool) {
@@ -206,8 +239,8 @@ fn empty_table<T: Default>(zones: usize) -> Vec<Vec<T>> {
 }
 
 /// Applies the rules to the opening and the accepted calls in order.
-pub fn account(zones: usize, calls: &[(Call, u32)]) -> Account {
-    let mut rules = Rules::new(zones);
+pub fn account(edition: u32, zones: usize, calls: &[(Call, u32)]) -> Account {
+    let mut rules = Rules::new(edition, zones);
     for &(call, answer) in calls {
         if answer == 0 && rules.step(call).is_none() {
             rules.account.by_rules = false;
@@ -280,15 +313,17 @@ pub struct Recorded {
     pub lines: Lines,
 }
 
-/// Reads the bytes of a recording of so many zones, or gives nothing for any other bytes.
-pub fn parse(zones: usize, bytes: &[u8]) -> Option<Recorded> {
+/// Reads the bytes of a recording of an edition and so many zones, or gives nothing for any other
+/// bytes.
+pub fn parse(edition: u32, zones: usize, bytes: &[u8]) -> Option<Recorded> {
     let word = |place: usize| -> Option<u16> {
         let pair = bytes.get(2 * place..2 * place + 2)?;
         Some(u16::from(pair[0]) * 256 + u16::from(pair[1]))
     };
     let header = word(0)?;
     let items = usize::from(header % 1_024);
-    if header / 1_024 != 8 + zones as u16 - 1 || bytes.len() != 2 + 4 * zones + 2 * items {
+    let front = usize::from(header / 1_024);
+    if front != 8 * edition as usize + zones - 1 || bytes.len() != 2 + 4 * zones + 2 * items {
         return None;
     }
     let mut recorded = Recorded {
@@ -321,7 +356,8 @@ pub fn parse(zones: usize, bytes: &[u8]) -> Option<Recorded> {
 
 /// Checks demand 3, whole, and gives every way in which it is broken.
 pub fn check(seen: &Seen) -> Vec<Finding> {
-    compare(seen, &account(seen.opening.len(), &seen.calls))
+    let zones = seen.opening.len();
+    compare(seen, &account(seen.edition, zones, &seen.calls))
 }
 
 /// Checks demand 3 against a given account of the accepted calls.
@@ -338,10 +374,14 @@ pub fn compare(seen: &Seen, account: &Account) -> Vec<Finding> {
         return findings;
     }
     let zones = seen.opening.len();
-    let Some(recorded) = parse(zones, &seen.bytes) else {
+    let Some(recorded) = parse(seen.edition, zones, &seen.bytes) else {
         find(true, Finding::Bytes);
         return findings;
     };
+
+    let recorded_lines = without_checks(seen.edition, &recorded.lines);
+    let present_lines = without_checks(seen.edition, &seen.lines);
+    find(recorded_lines != recorded.lines, Finding::CheckShown);
 
     // Part the events into those inside the recording and the others.
     let (inside, outside): (Vec<Event>, Vec<Event>) =
@@ -355,11 +395,11 @@ pub fn compare(seen: &Seen, account: &Account) -> Vec<Finding> {
     let refused = inside.iter().filter(|&&event| !park.step(event)).count();
     find(refused != 0, Finding::InsideStep);
     find(park.stocks != recorded.stocks, Finding::RecordedStocks);
-    find(park.lines() != recorded.lines, Finding::RecordedLines);
+    find(park.lines() != recorded_lines, Finding::RecordedLines);
     let refused = outside.iter().filter(|&&event| !park.step(event)).count();
     find(refused != 0, Finding::OutsideStep);
     find(park.stocks != seen.stocks, Finding::PresentStocks);
-    find(park.lines() != seen.lines, Finding::PresentLines);
+    find(park.lines() != present_lines, Finding::PresentLines);
 
     // Build the smallest set of zones, adding senders until nothing changes.
     let mut smallest = vec![false; zones];
@@ -407,6 +447,7 @@ pub fn look(opening: &[u16], calls: Vec<(Call, u32)>, run: &Run) -> Seen {
         }
     }
     Seen {
+        edition: run.edition,
         opening: opening.to_vec(),
         calls,
         answer,
@@ -421,8 +462,8 @@ pub fn look(opening: &[u16], calls: Vec<(Call, u32)>, run: &Run) -> Seen {
 
 /// Checks the bytes of a complete recording that someone else wrote after a list of calls with
 /// any arguments. This implementation tells which of the calls are accepted.
-pub fn check_bytes(opening: &[u16], calls: &[Call], bytes: &[u8]) -> Vec<Finding> {
-    let (_, mut run) = Run::open(opening.len() as u32, opening);
+pub fn check_bytes(edition: u32, opening: &[u16], calls: &[Call], bytes: &[u8]) -> Vec<Finding> {
+    let (_, mut run) = Run::open(edition, opening.len() as u32, opening);
     let calls = calls.iter().map(|&call| (call, run.call(call))).collect();
     let mut seen = look(opening, calls, &run);
     seen.answer = 0;

@@ -6,6 +6,7 @@
 //! is a byte whose lowest bit stands for zone 1.
 
 pub mod demand3;
+pub mod edition;
 pub mod generate;
 pub mod journal;
 pub mod print;

@@ -1,5 +1,6 @@
 //! A small random number generator and lists of calls drawn with it.
 
+use crate::edition::fewest;
 use crate::site::{is_request, Call, Run};
 
 /// The xorshift generator of 64 bits, with a multiplied answer.
@@ -36,13 +37,20 @@ impl Random {
 
 /// Opening stocks for 2 to 8 zones whose sum is accepted.
 pub fn stocks(random: &mut Random, zones: u32) -> Vec<u16> {
+    stocks_from(random, zones, 0)
+}
+
+/// The same with at least so many cars, up to 1,000, in each zone.
+pub fn stocks_from(random: &mut Random, zones: u32, least: u32) -> Vec<u16> {
     let most = match random.below(8) {
         0 => 0,
         1 | 2 => 3,
         3..=5 => 40,
         _ => 8_000,
     };
-    let mut stocks: Vec<u16> = (0..zones).map(|_| random.within(0, most) as u16).collect();
+    let mut stocks: Vec<u16> = (0..zones)
+        .map(|_| random.within(least, most.max(least)) as u16)
+        .collect();
     if random.chance(10) {
         // Fill one zone up to the largest sum.
         let rest: u32 = stocks[1..].iter().map(|&stock| u32::from(stock)).sum();
@@ -162,7 +170,7 @@ impl Habits {
 
 /// Calls that let each zone of a random chain hear the next one, and a start by the first. The
 /// lines of the chain, which carry the requests, then lie idle among the habits.
-fn chain(random: &mut Random, habits: &mut Habits) -> Vec<Call> {
+fn chain(random: &mut Random, edition: u32, habits: &mut Habits) -> Vec<Call> {
     let mut rest: Vec<u32> = (1..=habits.zones).collect();
     let mut order = Vec::new();
     for _ in 0..random.within(2, habits.zones) {
@@ -171,7 +179,11 @@ fn chain(random: &mut Random, habits: &mut Habits) -> Vec<Call> {
     let mut calls = Vec::new();
     for pair in order.windows(2).rev() {
         let (to, from) = (pair[0], pair[1]);
-        let cars = if random.chance(50) { 0 } else { cars(random) };
+        let cars = if random.chance(50) {
+            fewest(edition)
+        } else {
+            cars(random)
+        };
         calls.push(Call::HandOver { from, to, cars });
         calls.push(Call::Receipt { from, to });
         habits
@@ -191,6 +203,7 @@ fn chain(random: &mut Random, habits: &mut Habits) -> Vec<Call> {
 /// complete.
 pub fn drive(
     random: &mut Random,
+    edition: u32,
     zones: u32,
     length: usize,
     engine: &mut dyn FnMut(Call) -> u32,
@@ -198,7 +211,7 @@ pub fn drive(
     let mut habits = Habits::draw(random, zones);
     let mut calls = Vec::new();
     if random.chance(30) {
-        for call in chain(random, &mut habits) {
+        for call in chain(random, edition, &mut habits) {
             calls.push((call, engine(call)));
         }
     }

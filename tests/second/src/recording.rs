@@ -1,5 +1,6 @@
 //! The recording of a run, as bytes.
 
+use crate::edition::is_traffic;
 use crate::journal;
 use crate::site::{Call, Item, Run};
 use crate::zone::Mark;
@@ -31,7 +32,7 @@ pub fn write(run: &Run, lent: &mut [u8]) -> (u32, usize) {
             items.push(journal::encode(Call::HandOver { from, to, cars }));
         }
     }
-    let mut words = vec![journal::header(run.count, items.len())];
+    let mut words = vec![journal::header(run.edition, run.count, items.len())];
     for index in 0..run.size() {
         let (firm, events, stock) = shown(run, index);
         words.push(u16::from(firm) << 15 | events as u16);
@@ -50,17 +51,17 @@ fn shown(run: &Run, index: usize) -> (bool, u32, u32) {
 }
 
 /// Replays the journal and gives, for each line, the hand-overs sent inside the sender's
-/// events and not received inside the receiver's.
+/// events and not received inside the receiver's. Line checks are passed over.
 fn recorded_lines(run: &Run) -> [[Vec<u8>; 8]; 8] {
     let mut sent: [[Vec<Sent>; 8]; 8] = Default::default();
     let mut received = [[0; 8]; 8];
-    let (_, mut replay) = Run::open(run.count, &run.opening[..run.size()]);
+    let (_, mut replay) = Run::open(run.edition, run.count, &run.opening[..run.size()]);
     // The next own event of a zone is inside when its count is at most the events shown.
     let inside = |replay: &Run, index: usize| replay.zones[index].events < shown(run, index).1;
     for &word in &run.records {
         let call = journal::decode(word).expect("the journal of a true run is well formed");
         match call {
-            Call::HandOver { from, to, cars } => {
+            Call::HandOver { from, to, cars } if is_traffic(run.edition, cars) => {
                 let (a, b) = (from as usize - 1, to as usize - 1);
                 sent[a][b].push(Sent {
                     cars,
@@ -70,12 +71,15 @@ fn recorded_lines(run: &Run) -> [[Vec<u8>; 8]; 8] {
             }
             Call::Receipt { from, to } => {
                 let (a, b) = (from as usize - 1, to as usize - 1);
-                if let Some(Item::HandOver { .. }) = replay.lines[a][b].front() {
-                    sent[a][b][received[a][b]].received_inside = inside(&replay, b);
-                    received[a][b] += 1;
+                match replay.lines[a][b].front() {
+                    Some(&Item::HandOver { cars, .. }) if is_traffic(run.edition, cars) => {
+                        sent[a][b][received[a][b]].received_inside = inside(&replay, b);
+                        received[a][b] += 1;
+                    }
+                    _ => (),
                 }
             }
-            Call::Start { .. } => (),
+            _ => (),
         }
         replay.call(call);
     }

@@ -1,5 +1,7 @@
 //! One zone: the bare rules of its steps, and the zone part that asks its questions first.
 
+use crate::edition::{is_known, is_traffic};
+
 /// The stock and the number of own events that a mark keeps.
 #[derive(Clone, Copy, Debug, PartialEq, Eq)]
 pub struct Saved {
@@ -14,7 +16,7 @@ pub enum Mark {
     Firm(Saved),
 }
 
-/// What a zone keeps, apart from its own number and the zone count.
+/// What a zone keeps, apart from its own number, the zone count and the edition.
 #[derive(Clone, Copy, Debug, PartialEq, Eq)]
 pub struct Body {
     pub stock: u32,
@@ -78,15 +80,19 @@ impl Body {
         matches!(self.mark, Mark::Firm(_))
     }
 
-    /// Sends cars and gives the marked bit of the hand-over.
-    pub fn send(&mut self, cars: u8) -> bool {
+    /// Sends cars and gives the marked bit of the hand-over, which a line check has too.
+    pub fn send(&mut self, edition: u32, cars: u8) -> bool {
         self.stock -= u32::from(cars);
-        self.events += 1;
+        self.events += u32::from(is_traffic(edition, cars));
         self.mark != Mark::None
     }
 
-    /// Takes a hand-over: the heard set or the mark changes before the stock rises.
-    pub fn take(&mut self, sender: u32, cars: u8, marked: bool) {
+    /// Takes a hand-over: the heard set or the mark changes before the stock rises. A line check
+    /// changes nothing.
+    pub fn take(&mut self, edition: u32, sender: u32, cars: u8, marked: bool) {
+        if !is_traffic(edition, cars) {
+            return;
+        }
         if self.mark == Mark::None {
             if marked {
                 self.mark = Mark::Provisional(self.now());
@@ -116,6 +122,7 @@ impl Body {
 /// The zone part's state, with any values, unsound ones included.
 #[derive(Clone, Copy, Debug, PartialEq, Eq)]
 pub struct Zone {
+    pub edition: u32,
     pub number: u32,
     pub count: u32,
     pub body: Body,
@@ -146,22 +153,25 @@ fn accepted(requests: Requests, marked: bool) -> Answer {
 }
 
 impl Zone {
-    /// Opens a zone; a refused opening hands back zone 1 of 2 with stock 0.
-    pub fn open(number: u32, count: u32, stock: u16) -> (u32, Zone) {
-        let refusal = if !(2..=8).contains(&count) {
+    /// Opens a zone; a refused opening hands back zone 1 of 2 with stock 0 and edition 1.
+    pub fn open(edition: u32, number: u32, count: u32, stock: u16) -> (u32, Zone) {
+        let refusal = if !is_known(edition) {
+            15
+        } else if !(2..=8).contains(&count) {
             2
         } else if !on_site(number, count) {
             5
         } else {
             0
         };
-        let (number, count, stock) = if refusal == 0 {
-            (number, count, stock)
+        let (edition, number, count, stock) = if refusal == 0 {
+            (edition, number, count, stock)
         } else {
-            (1, 2, 0)
+            (1, 1, 2, 0)
         };
         let body = Body::opened(number, stock);
         let zone = Zone {
+            edition,
             number,
             count,
             body,
@@ -170,7 +180,8 @@ impl Zone {
     }
 
     pub fn sound(&self) -> bool {
-        (2..=8).contains(&self.count)
+        is_known(self.edition)
+            && (2..=8).contains(&self.count)
             && on_site(self.number, self.count)
             && set_on_site(self.body.heard, self.count)
             && self.body.stock <= 65_535
@@ -195,7 +206,7 @@ impl Zone {
         if self.body.stock < u32::from(cars) {
             return (self, refused(7));
         }
-        let marked = self.body.send(cars);
+        let marked = self.body.send(self.edition, cars);
         (self, accepted(NO_REQUESTS, marked))
     }
 
@@ -212,7 +223,7 @@ impl Zone {
         if self.body.stock + u32::from(cars) > 65_535 {
             return (self, refused(20));
         }
-        self.body.take(sender, cars, marked);
+        self.body.take(self.edition, sender, cars, marked);
         (self, accepted(NO_REQUESTS, false))
     }
 

@@ -4,6 +4,7 @@
 //! agree with the site engine.
 
 use second::demand3::{check, compare, look, Account, Event, Finding, Lines, Seen};
+use second::edition::EDITIONS;
 use second::random::{drive, stocks, Random};
 use second::site::{Call, Run};
 use std::collections::{BTreeMap, VecDeque};
@@ -27,6 +28,18 @@ enum Fault {
     PresentLines,
     /// The same, without hand-overs sent outside the sender's events.
     PresentInsideLines,
+    /// A line check is counted as an own event, in edition 2 as in edition 1.
+    CheckCounted,
+    /// A hand-over of 0 cars is not counted, in edition 1 as in edition 2.
+    CheckUncounted,
+    /// The sender of an unmarked line check joins the heard set.
+    CheckHeard,
+    /// A marked line check causes a mark.
+    CheckMarks,
+    /// A line check is shown in the recording.
+    CheckShown,
+    /// The recording's header has edition 1 whatever the run's is.
+    HeaderOfEdition1,
 }
 
 /// A mark keeps whether it is firm, the stock and the number of own events.
@@ -49,6 +62,7 @@ struct Sent {
 
 struct Fitter {
     fault: Fault,
+    edition: u32,
     opening: Vec<u16>,
     stock: Vec<u32>,
     events: Vec<u32>,
@@ -62,10 +76,11 @@ struct Fitter {
 }
 
 impl Fitter {
-    fn open(fault: Fault, opening: &[u16]) -> Fitter {
+    fn open(fault: Fault, edition: u32, opening: &[u16]) -> Fitter {
         let zones = opening.len();
         Fitter {
             fault,
+            edition,
             opening: opening.to_vec(),
             stock: opening.iter().map(|&stock| u32::from(stock)).collect(),
             events: vec![0; zones],
@@ -123,7 +138,7 @@ impl Fitter {
             return 8;
         }
         self.stock[a] -= u32::from(cars);
-        self.events[a] += 1;
+        self.events[a] += u32::from(self.counts(cars));
         let count = self.events[a];
         self.lines[a][b].push_back(Item::HandOver(cars, self.mark[a].is_some(), count));
         self.sent[a][b].push(Sent {
@@ -131,13 +146,28 @@ impl Fitter {
             sent: count,
             received: None,
         });
-        self.own.events.push(Event::Sent {
-            from: a,
-            to: b,
-            cars,
-            count,
-        });
+        if !self.is_check(cars) {
+            self.own.events.push(Event::Sent {
+                from: a,
+                to: b,
+                cars,
+                count,
+            });
+        }
         0
+    }
+
+    fn is_check(&self, cars: u8) -> bool {
+        self.edition == 2 && cars == 0
+    }
+
+    /// Says whether a hand-over is an own event.
+    fn counts(&self, cars: u8) -> bool {
+        match self.fault {
+            Fault::CheckCounted => true,
+            Fault::CheckUncounted => cars != 0,
+            _ => !self.is_check(cars),
+        }
     }
 
     fn receipt(&mut self, a: usize, b: usize) -> u32 {
@@ -159,9 +189,10 @@ impl Fitter {
     }
 
     fn take(&mut self, a: usize, b: usize, cars: u8, marked: bool) {
-        let unmarked = self.mark[b].is_none();
-        if self.fault != Fault::MarksSecond && unmarked && marked {
-            self.mark[b] = Some((false, self.stock[b], self.events[b]));
+        let (unmarked, before) = (self.mark[b].is_none(), self.events[b]);
+        let marks = unmarked && marked && self.heeds(Fault::CheckMarks, cars);
+        if self.fault != Fault::MarksSecond && marks {
+            self.mark[b] = Some((false, self.stock[b], before));
         }
         let provisional = matches!(self.mark[b], Some((false, _, _)));
         let hears = match self.fault {
@@ -169,25 +200,32 @@ impl Fitter {
             Fault::HearsUnmarkedAfterMark => provisional && !marked,
             _ => false,
         };
-        if hears || unmarked && !marked {
+        if (hears || unmarked && !marked) && self.heeds(Fault::CheckHeard, cars) {
             self.heard[b] |= 1 << a;
         }
         self.stock[b] += u32::from(cars);
-        self.events[b] += 1;
-        if self.fault == Fault::MarksSecond && unmarked && marked {
+        self.events[b] += u32::from(self.counts(cars));
+        if self.fault == Fault::MarksSecond && marks {
             self.mark[b] = Some((false, self.stock[b], self.events[b]));
         }
-        if unmarked && marked {
-            self.own.marks[b] = Some(self.events[b] - 1);
+        if marks {
+            self.own.marks[b] = Some(before);
         }
         let count = self.events[b];
         let first = self.sent[a][b].iter_mut().find(|s| s.received.is_none());
         first.expect("a hand-over on the line was sent").received = Some(count);
-        self.own.events.push(Event::Received {
-            from: a,
-            to: b,
-            count,
-        });
+        if !self.is_check(cars) {
+            self.own.events.push(Event::Received {
+                from: a,
+                to: b,
+                count,
+            });
+        }
+    }
+
+    /// Says whether a hand-over may mark its receiver or be heard: no line check may, but by a fault.
+    fn heeds(&self, fault: Fault, cars: u8) -> bool {
+        self.fault == fault || !self.is_check(cars)
     }
 
     fn request(&mut self, b: usize, set: u8) -> u32 {
@@ -248,6 +286,7 @@ impl Fitter {
     fn look(&mut self, calls: Vec<(Call, u32)>) -> Seen {
         let zones = self.zones();
         let mut seen = Seen {
+            edition: self.edition,
             opening: self.opening.clone(),
             calls,
             answer: 0,
@@ -278,8 +317,8 @@ impl Fitter {
             })
             .collect();
         let lines = match self.fault {
-            Fault::PresentLines => self.present(|_, _| true),
-            Fault::PresentInsideLines => self.present(|a, count| count <= shown[a].1),
+            Fault::PresentLines => self.traffic(|_, _| true),
+            Fault::PresentInsideLines => self.traffic(|a, count| count <= shown[a].1),
             _ => self.recorded(&shown),
         };
         let items: Vec<u16> = (0..zones)
@@ -289,7 +328,11 @@ impl Fitter {
                 lines[a][b].iter().map(move |&cars| word | u16::from(cars))
             })
             .collect();
-        let mut words = vec![(1 << 13 | (zones - 1) << 10 | items.len()) as u16];
+        let edition = match self.fault {
+            Fault::HeaderOfEdition1 => 1,
+            _ => self.edition as usize,
+        };
+        let mut words = vec![(edition << 13 | (zones - 1) << 10 | items.len()) as u16];
         for zone in 0..zones {
             words.push(u16::from(firm[zone]) << 15 | shown[zone].1 as u16);
             words.push(shown[zone].0 as u16);
@@ -299,7 +342,7 @@ impl Fitter {
         seen
     }
 
-    /// The present hand-overs that a test of sender and count lets through.
+    /// The present hand-overs that a test of sender and count lets through, line checks too.
     fn present(&self, keep: impl Fn(usize, u32) -> bool) -> Lines {
         let mut lines: Lines = vec![vec![Vec::new(); self.zones()]; self.zones()];
         for (a, row) in self.lines.iter().enumerate() {
@@ -316,14 +359,25 @@ impl Fitter {
         lines
     }
 
-    /// The hand-overs sent inside the sender's events and not received inside the receiver's.
+    /// The same without line checks.
+    fn traffic(&self, keep: impl Fn(usize, u32) -> bool) -> Lines {
+        let mut lines = self.present(keep);
+        for line in lines.iter_mut().flatten() {
+            line.retain(|&cars| !self.is_check(cars));
+        }
+        lines
+    }
+
+    /// The hand-overs sent inside the sender's events and not received inside the receiver's, without
+    /// line checks.
     fn recorded(&self, shown: &[(u32, u32)]) -> Lines {
         let mut lines: Lines = vec![vec![Vec::new(); self.zones()]; self.zones()];
         for (a, row) in self.sent.iter().enumerate() {
             for (b, line) in row.iter().enumerate() {
                 for item in line {
                     let received = item.received.is_some_and(|count| count <= shown[b].1);
-                    if item.sent <= shown[a].1 && !received {
+                    let is_shown = self.heeds(Fault::CheckShown, item.cars);
+                    if is_shown && item.sent <= shown[a].1 && !received {
                         lines[a][b].push(item.cars);
                     }
                 }
@@ -334,58 +388,75 @@ impl Fitter {
 }
 
 /// Drives an engine with a fault on random lists and hands over what is seen of each.
-fn each_run(fault: Fault, runs: usize, mut then: impl FnMut(Seen, &Account)) {
+fn each_run(fault: Fault, edition: u32, runs: usize, mut then: impl FnMut(Seen, &Account)) {
     let mut random = Random::new(9);
     for _ in 0..runs {
         let zones = random.within(2, 6);
         let opening = stocks(&mut random, zones);
-        let mut fitter = Fitter::open(fault, &opening);
-        let calls = drive(&mut random, zones, 80, &mut |call| fitter.call(call));
+        let mut fitter = Fitter::open(fault, edition, &opening);
+        let calls = drive(&mut random, edition, zones, 80, &mut |call| {
+            fitter.call(call)
+        });
         let seen = fitter.look(calls);
         then(seen, &fitter.own);
     }
 }
 
 /// Counts the findings of a fault over random lists, and the complete recordings.
-fn findings(fault: Fault) -> (BTreeMap<Finding, u32>, u32) {
+fn findings(fault: Fault, edition: u32) -> BTreeMap<Finding, u32> {
     let mut all = BTreeMap::new();
     let mut complete = 0;
-    each_run(fault, 2_000, |seen, _| {
+    each_run(fault, edition, 2_000, |seen, _| {
         complete += u32::from(seen.answer == 0);
         for finding in check(&seen) {
             *all.entry(finding).or_insert(0) += 1;
         }
     });
-    println!("{fault:?}: {all:?} on {complete} complete recordings");
+    println!("{fault:?}, edition {edition}: {all:?} on {complete} complete recordings");
     assert!(complete > 800);
-    (all, complete)
+    all
+}
+
+/// In both editions every one of the findings must turn up.
+fn must_find(fault: Fault, wanted: &[Finding]) {
+    for edition in EDITIONS {
+        must_find_in(edition, fault, wanted);
+    }
 }
 
 /// Every one of the findings must turn up, and often enough not to be luck.
-fn must_find(fault: Fault, wanted: &[Finding]) {
-    let (all, _) = findings(fault);
+fn must_find_in(edition: u32, fault: Fault, wanted: &[Finding]) {
+    let all = findings(fault, edition);
     for finding in wanted {
         assert!(all.get(finding).is_some_and(|&times| times >= 5));
     }
 }
 
+/// The findings must be just these.
+fn must_find_just(edition: u32, fault: Fault, wanted: &[Finding]) {
+    let all = findings(fault, edition);
+    assert_eq!(all.keys().copied().collect::<Vec<_>>(), wanted);
+}
+
 #[test]
 fn without_a_fault_nothing_is_found_and_the_site_agrees() {
-    assert!(findings(Fault::None).0.is_empty());
-    each_run(Fault::None, 1_000, |seen, own| {
-        let zones = seen.opening.len() as u32;
-        let (_, mut run) = Run::open(zones, &seen.opening);
-        for &(call, number) in &seen.calls {
-            assert_eq!(run.call(call), number);
-        }
-        let site = look(&seen.opening, seen.calls.clone(), &run);
-        assert_eq!((site.answer, site.bytes), (seen.answer, seen.bytes.clone()));
-        assert_eq!(
-            (site.stocks, site.lines),
-            (seen.stocks.clone(), seen.lines.clone())
-        );
-        assert_eq!(compare(&seen, own), []);
-    });
+    for edition in EDITIONS {
+        must_find_just(edition, Fault::None, &[]);
+        each_run(Fault::None, edition, 1_000, |seen, own| {
+            let zones = seen.opening.len() as u32;
+            let (_, mut run) = Run::open(edition, zones, &seen.opening);
+            for &(call, number) in &seen.calls {
+                assert_eq!(run.call(call), number);
+            }
+            let site = look(&seen.opening, seen.calls.clone(), &run);
+            assert_eq!((site.answer, site.bytes), (seen.answer, seen.bytes.clone()));
+            assert_eq!(
+                (site.stocks, site.lines),
+                (seen.stocks.clone(), seen.lines.clone())
+            );
+            assert_eq!(compare(&seen, own), []);
+        });
+    }
 }
 
 #[test]
@@ -426,18 +497,47 @@ fn passing_on_only_the_own_set_is_caught_by_the_rules() {
 /// takes nothing, or the hand-over behind it. An account that trusted the run would find nothing.
 #[test]
 fn passing_on_only_the_own_set_passes_an_account_that_trusts_the_run() {
-    each_run(Fault::OwnSetOnly, 2_000, |seen, own| {
-        assert_eq!(compare(&seen, own), []);
-    });
+    for edition in EDITIONS {
+        each_run(Fault::OwnSetOnly, edition, 2_000, |seen, own| {
+            assert_eq!(compare(&seen, own), []);
+        });
+    }
 }
 
 #[test]
 fn present_lines_are_caught() {
     for fault in [Fault::PresentLines, Fault::PresentInsideLines] {
-        let (all, _) = findings(fault);
-        assert_eq!(
-            all.keys().copied().collect::<Vec<_>>(),
-            [Finding::RecordedLines]
-        );
+        for edition in EDITIONS {
+            must_find_just(edition, fault, &[Finding::RecordedLines]);
+        }
     }
+}
+
+/// A fault with checks shows in its own edition, and is none in the other.
+#[test]
+fn checks_that_are_counted_wrongly_are_caught() {
+    let wanted = [Finding::InsideStep, Finding::Events];
+    for (fault, wrong, right) in [(Fault::CheckCounted, 2, 1), (Fault::CheckUncounted, 1, 2)] {
+        must_find_in(wrong, fault, &wanted);
+        must_find_just(right, fault, &[]);
+    }
+}
+
+#[test]
+fn checks_that_are_heard_or_cause_a_mark_are_caught() {
+    must_find_in(2, Fault::CheckHeard, &[Finding::Rules, Finding::Zones]);
+    // The mark comes too early: the moment is a possible one, but not the one of the rules.
+    must_find_in(2, Fault::CheckMarks, &[Finding::Events]);
+}
+
+#[test]
+fn checks_that_are_shown_are_caught() {
+    must_find_just(2, Fault::CheckShown, &[Finding::CheckShown]);
+    must_find_just(1, Fault::CheckShown, &[]);
+}
+
+#[test]
+fn the_wrong_edition_in_the_header_is_caught() {
+    must_find_just(2, Fault::HeaderOfEdition1, &[Finding::Bytes]);
+    must_find_just(1, Fault::HeaderOfEdition1, &[]);
 }

@@ -1,5 +1,7 @@
 //! The questions in order: question 1 on any state, each refusal, and the zone part.
 
+use second::edition::EDITIONS;
+use second::generate::with_edition;
 use second::journal;
 use second::print::MOST_BYTES;
 use second::random::{drive, stocks, Random};
@@ -19,8 +21,8 @@ fn hand_over(cars: u8) -> Item {
     }
 }
 
-fn opened(stocks: &[u16]) -> Run {
-    let (refusal, run) = Run::open(stocks.len() as u32, stocks);
+fn opened(edition: u32, stocks: &[u16]) -> Run {
+    let (refusal, run) = Run::open(edition, stocks.len() as u32, stocks);
     assert_eq!(refusal, 0);
     run
 }
@@ -51,7 +53,12 @@ fn only_the_fuller_form_fails(run: &Run) {
 
 #[test]
 fn question_1_refuses_every_unsound_state() {
-    let sound = opened(&[10, 20, 30]);
+    let sound = opened(1, &[10, 20, 30]);
+    for edition in [0, 3, 7, 255, u32::MAX] {
+        let mut run = sound.clone();
+        run.edition = edition;
+        all_answer_1(&run);
+    }
     for count in [0, 1, 9, 16, u32::MAX] {
         let mut run = sound.clone();
         run.count = count;
@@ -104,7 +111,7 @@ fn question_1_refuses_every_unsound_state() {
 
 #[test]
 fn question_1_does_not_look_at_unused_storage_or_marks() {
-    let mut run = opened(&[10, 20, 30]);
+    let mut run = opened(1, &[10, 20, 30]);
     run.zones[3].stock = u32::MAX;
     run.zones[4].heard = 255;
     run.zones[5].events = 9;
@@ -129,13 +136,17 @@ fn question_1_does_not_look_at_unused_storage_or_marks() {
 
 #[test]
 fn the_fuller_form_wants_the_state_of_the_journal() {
-    let mut run = opened(&[10, 20, 30]);
+    let mut run = opened(1, &[10, 20, 30]);
     run.hand_over(1, 2, 4);
     run.receipt(1, 2);
     run.start(2);
     run.receipt(2, 1);
     assert!(run.true_run());
 
+    // Without a hand-over of 0 cars the other edition replays to this state too.
+    let mut other = run.clone();
+    other.edition = 2;
+    assert!(other.true_run());
     let mut other = run.clone();
     other.zones[0].stock += 1;
     only_the_fuller_form_fails(&other);
@@ -163,6 +174,13 @@ fn the_fuller_form_wants_the_state_of_the_journal() {
     let mut other = run.clone();
     other.records.push(journal::encode(Call::Start { zone: 1 }));
     only_the_fuller_form_fails(&other);
+    for (edition, other) in [(1, 2), (2, 1)] {
+        let mut checked = opened(edition, &[1, 1]);
+        checked.hand_over(1, 2, 0);
+        assert!(checked.true_run());
+        checked.edition = other;
+        only_the_fuller_form_fails(&checked);
+    }
     // A word that is not well formed does not replay, though its bare call would be accepted.
     for (record, word) in [(1, 0x4101), (2, 0x8900), (2, 0x8801), (0, 0xC104)] {
         let mut other = run.clone();
@@ -173,7 +191,7 @@ fn the_fuller_form_wants_the_state_of_the_journal() {
 
 #[test]
 fn writers_ask_for_enough_bytes_last() {
-    let mut run = opened(&[1, 1]);
+    let mut run = opened(1, &[1, 1]);
     let mut lent = [9; 20];
     assert_eq!(recording::write(&run, &mut []), (12, 0));
     assert_eq!(journal::write(&run, &mut lent[..5]), (14, 0));
@@ -198,7 +216,7 @@ fn writers_ask_for_enough_bytes_last() {
 
 #[test]
 fn named_zones_come_second() {
-    let mut run = opened(&[1, 1, 1]);
+    let mut run = opened(1, &[1, 1, 1]);
     for (from, to) in [(0, 1), (1, 0), (4, 1), (1, 4), (2, 2), (u32::MAX, 1)] {
         assert_eq!(run.hand_over(from, to, 255), 5);
         assert_eq!(run.receipt(from, to), 5);
@@ -214,7 +232,7 @@ fn named_zones_come_second() {
 #[test]
 fn full_lines_refuse_requests() {
     // A start asks 11 before 10.
-    let mut run = opened(&[9, 9, 9]);
+    let mut run = opened(1, &[9, 9, 9]);
     run.hand_over(2, 1, 1);
     run.receipt(2, 1);
     for _ in 0..16 {
@@ -227,7 +245,7 @@ fn full_lines_refuse_requests() {
     assert_eq!(other.start(3), 0);
     assert_eq!(other.start(1), 11);
     // A receipt that must pass a request on needs the place too, and keeps the item if refused.
-    let mut run = opened(&[9, 9, 9]);
+    let mut run = opened(1, &[9, 9, 9]);
     run.hand_over(3, 2, 0);
     run.receipt(3, 2);
     run.hand_over(2, 1, 0);
@@ -250,7 +268,7 @@ fn full_lines_refuse_requests() {
 
 #[test]
 fn a_firm_zone_drops_a_request_on_full_lines() {
-    let mut run = opened(&[9, 9]);
+    let mut run = opened(1, &[9, 9]);
     run.hand_over(2, 1, 1);
     run.receipt(2, 1);
     run.start(1);
@@ -262,9 +280,10 @@ fn a_firm_zone_drops_a_request_on_full_lines() {
 
 #[test]
 fn a_site_start_of_a_provisional_zone_in_an_untrue_state() {
-    let mut run = opened(&[10, 20]);
+    let mut run = opened(1, &[10, 20]);
     run.zones[0].mark = Mark::Provisional(KEPT);
     let zone = Zone {
+        edition: 1,
         number: 1,
         count: 2,
         body: run.zones[0],
@@ -284,25 +303,34 @@ fn reading_asks_in_order() {
         let reading = journal::read(bytes);
         if reading.refusal != 0 {
             assert!(reading.run.same(&Run::refused()));
+            assert_eq!(reading.run.edition, 1);
         }
         (reading.refusal, reading.position)
     };
     assert_eq!(read(&[]), (15, 0));
-    assert_eq!(read(&[0x24]), (15, 0));
-    for edition in [0, 2, 3, 4, 5, 6, 7] {
+    for first in [0x24, 0x44] {
+        assert_eq!(read(&[first]), (15, 0));
+    }
+    for edition in [0, 3, 4, 5, 6, 7] {
         // A wrong edition comes before zones 0 and the number 1,023.
         assert_eq!(read(&[edition << 5 | 3, 255]), (15, 0));
     }
-    assert_eq!(read(&[0x20, 0, 0, 0]), (16, 0));
-    assert_eq!(read(&[0x27, 0xE9]), (16, 0));
-    assert_eq!(read(&[0x27, 0xE8]), (17, 0));
-    assert_eq!(read(&[0x24, 0]), (17, 0));
-    assert_eq!(read(&[0x24, 0, 0, 0, 0]), (17, 0));
-    assert_eq!(read(&[0x24, 0, 0, 0, 0, 0]), (0, 0));
-    assert_eq!(read(&[0x24, 0, 0, 0, 0, 0, 0]), (17, 0));
-    assert_eq!(read(&[0x24, 1, 255, 255, 0, 1, 0xC0, 0]), (4, 0));
+    for edition in EDITIONS {
+        asks_in_order(edition, &|bytes| read(&with_edition(edition, bytes)));
+    }
+}
+
+fn asks_in_order(edition: u32, read: &dyn Fn(&[u8]) -> (u32, usize)) {
+    assert_eq!(read(&[0, 0, 0, 0]), (16, 0));
+    assert_eq!(read(&[7, 0xE9]), (16, 0));
+    assert_eq!(read(&[7, 0xE8]), (17, 0));
+    assert_eq!(read(&[4, 0]), (17, 0));
+    assert_eq!(read(&[4, 0, 0, 0, 0]), (17, 0));
+    assert_eq!(read(&[4, 0, 0, 0, 0, 0]), (0, 0));
+    assert_eq!(read(&[4, 0, 0, 0, 0, 0, 0]), (17, 0));
+    assert_eq!(read(&[4, 1, 255, 255, 0, 1, 0xC0, 0]), (4, 0));
     let journal = |words: &[u16]| {
-        let mut all = vec![0x2400 + words.len() as u16, 5, 5];
+        let mut all = vec![journal::header(edition, 2, words.len()), 5, 5];
         all.extend(words);
         journal::bytes_of(&all)
     };
@@ -324,35 +352,47 @@ fn reading_asks_in_order() {
 
 #[test]
 fn opening_one_zone() {
-    let refused = Zone::open(1, 2, 0).1;
-    for count in [0, 1, 9, u32::MAX] {
-        assert_eq!(Zone::open(1, count, 7), (2, refused));
-        assert_eq!(Zone::open(0, count, 7), (2, refused));
-    }
-    for (number, count) in [(0, 2), (3, 2), (9, 8), (u32::MAX, 8)] {
-        assert_eq!(Zone::open(number, count, 7), (5, refused));
-    }
-    for count in 2..=8 {
-        for number in 1..=count {
-            let (refusal, zone) = Zone::open(number, count, 65_535);
-            assert_eq!(refusal, 0);
-            assert!(zone.sound());
-            let body = Body {
-                stock: 65_535,
-                events: 0,
-                heard: 1 << (number - 1),
-                mark: Mark::None,
-            };
-            assert_eq!(
-                zone,
-                Zone {
-                    number,
-                    count,
-                    body
-                }
-            );
+    let refused = Zone::open(1, 1, 2, 0).1;
+    for edition in [0, 3, 7, 255, u32::MAX] {
+        // Question 15 comes before 2 and 5.
+        for (number, count) in [(1, 2), (1, 9), (3, 2)] {
+            assert_eq!(Zone::open(edition, number, count, 7), (15, refused));
         }
     }
+    for edition in EDITIONS {
+        for count in [0, 1, 9, u32::MAX] {
+            assert_eq!(Zone::open(edition, 1, count, 7), (2, refused));
+            assert_eq!(Zone::open(edition, 0, count, 7), (2, refused));
+        }
+        for (number, count) in [(0, 2), (3, 2), (9, 8), (u32::MAX, 8)] {
+            assert_eq!(Zone::open(edition, number, count, 7), (5, refused));
+        }
+        for count in 2..=8 {
+            for number in 1..=count {
+                opens(edition, number, count);
+            }
+        }
+    }
+}
+
+/// An accepted opening of one zone.
+fn opens(edition: u32, number: u32, count: u32) {
+    let (refusal, zone) = Zone::open(edition, number, count, 65_535);
+    assert_eq!(refusal, 0);
+    assert!(zone.sound());
+    let body = Body {
+        stock: 65_535,
+        events: 0,
+        heard: 1 << (number - 1),
+        mark: Mark::None,
+    };
+    let expected = Zone {
+        edition,
+        number,
+        count,
+        body,
+    };
+    assert_eq!(zone, expected);
 }
 
 /// The number of a zone step that must be refused: the state and the empty answers are checked.
@@ -367,8 +407,8 @@ fn refusal(zone: Zone, step: impl Fn(Zone) -> (Zone, second::zone::Answer)) -> u
 
 #[test]
 fn zone_steps_answer_1_on_every_unsound_zone() {
-    let sound = Zone::open(2, 3, 10).1;
-    let mut bad = vec![sound; 11];
+    let sound = Zone::open(1, 2, 3, 10).1;
+    let mut bad = vec![sound; 14];
     bad[0].count = 1;
     bad[1].count = 9;
     bad[2].count = u32::MAX;
@@ -380,6 +420,9 @@ fn zone_steps_answer_1_on_every_unsound_zone() {
     bad[8].body.stock = u32::MAX;
     bad[9].body.events = 1_001;
     bad[10].body.events = u32::MAX;
+    bad[11].edition = 0;
+    bad[12].edition = 3;
+    bad[13].edition = 255;
     for zone in bad {
         assert_eq!(refusal(zone, |zone| zone.send(2, 255)), 1);
         assert_eq!(refusal(zone, |zone| zone.take_hand_over(2, 255, true)), 1);
@@ -390,14 +433,22 @@ fn zone_steps_answer_1_on_every_unsound_zone() {
 
 #[test]
 fn zone_steps_ask_in_order() {
-    let mut zone = Zone::open(2, 3, 10).1;
+    for edition in EDITIONS {
+        zone_asks_in_order(Zone::open(edition, 2, 3, 10).1);
+    }
+}
+
+fn zone_asks_in_order(mut zone: Zone) {
     zone.body.events = 1_000;
     for other in [0, 2, 4, u32::MAX] {
         assert_eq!(refusal(zone, |zone| zone.send(other, 255)), 5);
         assert_eq!(refusal(zone, |zone| zone.take_hand_over(other, 0, true)), 5);
     }
-    assert_eq!(refusal(zone, |zone| zone.send(1, 255)), 6);
-    assert_eq!(refusal(zone, |zone| zone.take_hand_over(1, 255, true)), 6);
+    // A line check meets 6 too, though it is no own event.
+    for cars in [0, 255] {
+        assert_eq!(refusal(zone, |zone| zone.send(1, cars)), 6);
+        assert_eq!(refusal(zone, |zone| zone.take_hand_over(1, cars, true)), 6);
+    }
     assert_eq!(refusal(zone, |zone| zone.take_request(0b1000)), 5);
     zone.body.events = 999;
     assert_eq!(refusal(zone, |zone| zone.send(1, 11)), 7);
@@ -423,7 +474,12 @@ fn zone_steps_ask_in_order() {
 
 #[test]
 fn zone_steps_follow_the_rules() {
-    let zone = Zone::open(2, 4, 10).1;
+    for edition in EDITIONS {
+        zone_follows_the_rules(Zone::open(edition, 2, 4, 10).1);
+    }
+}
+
+fn zone_follows_the_rules(zone: Zone) {
     let (sent, answer) = zone.send(1, 10);
     assert_eq!(
         (sent.body.stock, sent.body.events, answer.marked),
@@ -444,7 +500,7 @@ fn zone_steps_follow_the_rules() {
 
     // Once marked, the heard set and the mark stay.
     for bit in [false, true] {
-        let (next, _) = marked.take_hand_over(4, 0, bit);
+        let (next, _) = marked.take_hand_over(4, 1, bit);
         assert_eq!(next.body.heard, marked.body.heard);
         assert_eq!(next.body.mark, marked.body.mark);
         assert_eq!(next.body.events, 3);
@@ -486,19 +542,91 @@ fn zone_steps_follow_the_rules() {
     assert_eq!(odd.start().1.requests, requests);
 }
 
+/// Zones of an edition with each kind of mark; all have stock 20 and have heard zone 3.
+fn marked_zones(edition: u32) -> [Zone; 3] {
+    let zone = Zone::open(edition, 2, 3, 19).1;
+    let (zone, answer) = zone.take_hand_over(3, 1, false);
+    assert_eq!((answer.refusal, zone.body.stock), (0, 20));
+    [Mark::None, Mark::Provisional(KEPT), Mark::Firm(KEPT)].map(|mark| {
+        let mut zone = zone;
+        zone.body.mark = mark;
+        zone
+    })
+}
+
+#[test]
+fn a_check_leaves_a_zone_of_edition_2_as_it_is() {
+    for zone in marked_zones(2) {
+        let (next, answer) = zone.send(1, 0);
+        assert_eq!(next, zone);
+        assert_eq!((answer.refusal, answer.requests), (0, NO_REQUESTS));
+        assert_eq!(answer.marked, zone.body.mark != Mark::None);
+        for bit in [false, true] {
+            let (next, answer) = zone.take_hand_over(1, 0, bit);
+            assert_eq!(next, zone);
+            assert_eq!((answer.refusal, answer.requests), (0, NO_REQUESTS));
+            assert!(!answer.marked);
+        }
+    }
+}
+
+#[test]
+fn a_check_is_as_any_hand_over_to_a_zone_of_edition_1() {
+    for zone in marked_zones(1) {
+        let (next, answer) = zone.send(1, 0);
+        assert_eq!(next.body.events, 2);
+        assert_eq!(answer.marked, zone.body.mark != Mark::None);
+        for bit in [false, true] {
+            let (next, _) = zone.take_hand_over(1, 0, bit);
+            assert_eq!(next.body.events, 2);
+            let (mark, heard) = match (zone.body.mark, bit) {
+                (Mark::None, false) => (Mark::None, 0b111),
+                (Mark::None, true) => {
+                    let (stock, events) = (20, 1);
+                    (Mark::Provisional(Saved { stock, events }), 0b110)
+                }
+                (mark, _) => (mark, 0b110),
+            };
+            assert_eq!((next.body.mark, next.body.heard), (mark, heard));
+        }
+    }
+}
+
+/// In the zone part 6 asks the own events, so checks never run out in edition 2.
+#[test]
+fn the_1_001st_check_of_a_zone() {
+    for (edition, refusal) in [(1, 6), (2, 0)] {
+        let (mut sender, mut taker) = (
+            Zone::open(edition, 1, 2, 0).1,
+            Zone::open(edition, 2, 2, 0).1,
+        );
+        for _ in 0..1_000 {
+            let (next, answer) = sender.send(2, 0);
+            assert_eq!(answer.refusal, 0);
+            sender = next;
+            let (next, answer) = taker.take_hand_over(1, 0, false);
+            assert_eq!(answer.refusal, 0);
+            taker = next;
+        }
+        assert_eq!(sender.send(2, 0).1.refusal, refusal);
+        assert_eq!(taker.take_hand_over(1, 0, true).1.refusal, refusal);
+    }
+}
+
 /// Random lists of calls: zones of the zone part, kept side by side with lines of the test,
 /// follow the site engine step by step.
 #[test]
 fn the_zone_part_keeps_step_with_the_site() {
     let mut random = Random::new(1);
-    for _ in 0..400 {
+    for turn in 0..800 {
+        let edition = EDITIONS[turn % 2];
         let count = random.within(2, 8);
         let opening = stocks(&mut random, count);
-        let mut run = opened(&opening);
+        let mut run = opened(edition, &opening);
         let mut zones: Vec<Zone> = (0..count)
-            .map(|index| Zone::open(index + 1, count, opening[index as usize]).1)
+            .map(|index| Zone::open(edition, index + 1, count, opening[index as usize]).1)
             .collect();
-        drive(&mut random, count, 80, &mut |call| {
+        drive(&mut random, edition, count, 80, &mut |call| {
             let before = run.clone();
             let number = run.call(call);
             if number != 0 {
@@ -559,9 +687,10 @@ fn the_zone_part_keeps_step_with_the_site() {
 fn no_call_panics_on_random_states() {
     let mut random = Random::new(2);
     let mut accepted = 0;
-    for _ in 0..600 {
+    for turn in 0..1_200 {
+        let edition = EDITIONS[turn % 2];
         let count = random.within(2, 8);
-        let mut run = opened(&stocks(&mut random, count));
+        let mut run = opened(edition, &stocks(&mut random, count));
         run.records = vec![0; random.below(1_003)];
         for body in &mut run.zones {
             body.heard = (random.within(0, 255) & ((1 << count) - 1)) as u8;
@@ -583,21 +712,26 @@ fn no_call_panics_on_random_states() {
                         0 => Item::Request {
                             set: (random.within(0, 255) & ((1 << count) - 1)) as u8,
                         },
-                        _ => hand_over(random.within(0, 9) as u8),
+                        _ => Item::HandOver {
+                            cars: random.within(0, 9) as u8,
+                            marked: random.chance(30),
+                        },
                     });
                 }
             }
         }
         // Some states are unsound by one more field.
-        match random.below(12) {
+        match random.below(14) {
             0 => run.count = random.within(0, u32::MAX),
             1 => run.zones[0].stock = random.within(0, u32::MAX),
             2 => run.zones[0].events = random.within(0, u32::MAX),
             3 => run.zones[0].heard = random.within(0, 255) as u8,
             4 => run.lines[0][1].extend([Item::Request { set: 255 }; 20]),
+            5 => run.edition = random.within(0, u32::MAX),
+            6 => run.edition = random.within(0, 3),
             _ => (),
         }
-        drive(&mut random, count, 20, &mut |call| {
+        drive(&mut random, edition, count, 20, &mut |call| {
             let before = run.clone();
             let number = run.call(call);
             if number == 0 {
@@ -614,5 +748,5 @@ fn no_call_panics_on_random_states() {
         let (refusal, _) = recording::write(&run, &mut lent);
         assert!(refusal == 1 || run.true_run());
     }
-    assert!(accepted > 5_000);
+    assert!(accepted > 10_000);
 }

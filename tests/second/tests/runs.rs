@@ -1,7 +1,8 @@
 //! Random runs and generated journals: round trips and demand 3.
 
 use second::demand3::{account, check, check_bytes, look, Finding};
-use second::generate::{bytes_of, journals, traits};
+use second::edition::EDITIONS;
+use second::generate::{bytes_of, edition_of, journals, traits, Traits};
 use second::journal;
 use second::print;
 use second::random::{drive, finish, stocks, Random};
@@ -9,13 +10,14 @@ use second::recording;
 use second::site::{Call, Run};
 use std::collections::BTreeMap;
 
-/// A run after a random list of calls, with the opening and the list.
+/// A run of either edition after a random list of calls, with the opening and the list.
 fn random_run(random: &mut Random, length: usize) -> (Vec<u16>, Vec<(Call, u32)>, Run) {
+    let edition = EDITIONS[random.below(2)];
     let zones = random.within(2, 8);
     let opening = stocks(random, zones);
-    let (refusal, mut run) = Run::open(zones, &opening);
+    let (refusal, mut run) = Run::open(edition, zones, &opening);
     assert_eq!(refusal, 0);
-    let calls = drive(random, zones, length, &mut |call| run.call(call));
+    let calls = drive(random, edition, zones, length, &mut |call| run.call(call));
     (opening, calls, run)
 }
 
@@ -57,7 +59,7 @@ fn accepted_journals_are_written_back_as_the_same_bytes() {
 #[test]
 fn demand_3_holds_on_thousands_of_random_complete_runs() {
     let mut random = Random::new(6);
-    let (mut complete, mut incomplete, mut unstarted, mut turned) = (0, 0, 0, 0);
+    let (mut complete, mut incomplete, mut unstarted, mut turned) = ([0; 2], 0, 0, [0; 2]);
     for turn in 0..6_000 {
         let length = match turn % 50 {
             0 => 1_500,
@@ -67,41 +69,47 @@ fn demand_3_holds_on_thousands_of_random_complete_runs() {
         let (opening, calls, run) = random_run(&mut random, length);
         let seen = look(&opening, calls, &run);
         assert_eq!(check(&seen), []);
+        let edition = run.edition as usize - 1;
         match seen.answer {
-            0 => complete += 1,
+            0 => complete[edition] += 1,
             12 => unstarted += 1,
             13 => incomplete += 1,
             other => panic!("a true run was refused with {other}"),
         }
         if seen.answer == 0 {
-            turned += u32::from(traits(&bytes_of(&run)).turned_firm);
+            turned[edition] += u32::from(traits(&bytes_of(&run)).turned_firm);
         }
     }
-    println!("{complete} complete, {turned} of them turned firm, {incomplete} incomplete, {unstarted} unstarted");
-    assert!(complete > 2_500 && turned > 200 && incomplete > 100 && unstarted > 100);
+    println!("by edition {complete:?} complete, {turned:?} of them turned firm; {incomplete} incomplete, {unstarted} unstarted");
+    assert!(complete.iter().all(|&times| times > 1_200) && turned.iter().all(|&times| times > 100));
+    assert!(incomplete > 100 && unstarted > 100);
 }
 
-/// Every list of accepted calls up to a length, on two zones with one car each and on three.
+/// Every list of accepted calls up to a length, on two zones with one car each and on three, with
+/// hand-overs of 1 car alone and with such of 0 cars too.
 #[test]
 fn demand_3_holds_on_every_short_list() {
     let mut checked = 0;
-    every_list(&[1, 1], 10, &mut checked);
-    every_list(&[1, 0, 1], 7, &mut checked);
+    every_list(1, &[1, 1], &[1], 10, &mut checked);
+    every_list(1, &[1, 0, 1], &[1], 7, &mut checked);
+    every_list(2, &[1, 1], &[0, 1], 6, &mut checked);
+    every_list(2, &[1, 0, 1], &[0, 1], 4, &mut checked);
     println!("{checked} complete lists");
     assert!(checked > 10_000);
 }
 
-fn every_list(opening: &[u16], length: usize, checked: &mut u32) {
+fn every_list(edition: u32, opening: &[u16], loads: &[u8], length: usize, checked: &mut u32) {
     let zones = opening.len() as u32;
     let mut choices = Vec::new();
     for from in 1..=zones {
         choices.push(Call::Start { zone: from });
         for to in (1..=zones).filter(|&to| to != from) {
             choices.push(Call::Receipt { from, to });
-            choices.push(Call::HandOver { from, to, cars: 1 });
+            let sent = loads.iter().map(|&cars| Call::HandOver { from, to, cars });
+            choices.extend(sent);
         }
     }
-    let (_, run) = Run::open(zones, opening);
+    let (_, run) = Run::open(edition, zones, opening);
     extend(opening, &choices, &mut Vec::new(), &run, length, checked);
 }
 
@@ -173,8 +181,15 @@ fn the_checker_finds_every_turned_bit() {
         other.stocks[0] += 1;
         assert_eq!(check(&other), [Finding::PresentStocks]);
         let mut other = seen.clone();
-        other.lines[0][1].insert(0, 0);
+        other.lines[0][1].insert(0, 1);
         assert_eq!(check(&other), [Finding::PresentLines]);
+        // One more hand-over of 0 cars on a present line is seen in edition 1 alone.
+        other.lines[0][1][0] = 0;
+        let found: &[Finding] = match seen.edition {
+            1 => &[Finding::PresentLines],
+            _ => &[],
+        };
+        assert_eq!(check(&other), found);
         let mut other = seen.clone();
         other.answer = 13;
         assert_eq!(check(&other), [Finding::Completion]);
@@ -189,13 +204,13 @@ fn the_checker_takes_bytes_of_others() {
     let mut random = Random::new(8);
     for _ in 0..300 {
         let (opening, calls, run) = random_run(&mut random, 60);
-        let account = account(opening.len(), &calls);
+        let account = account(run.edition, opening.len(), &calls);
         assert!(account.by_rules);
         assert_eq!(account.complete, run.started() && !run.holds_request());
         let mut lent = [0; print::MOST_BYTES];
         let (refusal, written) = recording::write(&run, &mut lent);
         let calls: Vec<Call> = calls.iter().map(|&(call, _)| call).collect();
-        let findings = check_bytes(&opening, &calls, &lent[..written]);
+        let findings = check_bytes(run.edition, &opening, &calls, &lent[..written]);
         assert_eq!(findings.is_empty(), refusal == 0);
     }
 }
@@ -209,18 +224,38 @@ fn generated_journals_have_every_kind() {
     );
     let length: usize = all.iter().map(|journal| 2 + journal.len()).sum();
     assert!(length < 300_000);
-    let mut numbers = BTreeMap::new();
-    let (mut turned, mut above) = (0, 0);
-    for journal in &all {
-        let traits = traits(journal);
-        *numbers.entry(traits.refusal).or_insert(0) += 1;
-        turned += u32::from(traits.turned_firm);
-        above += u32::from(traits.above_16);
+    // crates/cases takes no longer ones.
+    assert!(all.iter().all(|journal| journal.len() <= 4_096));
+    assert_eq!(refusals(&all).get(&15), Some(&16));
+    for edition in EDITIONS {
+        let of = |journal: &&Vec<u8>| edition_of(journal) == edition;
+        let journals: Vec<Vec<u8>> = all.iter().filter(of).cloned().collect();
+        assert!(journals.len() > 180);
+        has_every_kind(&journals);
     }
+}
+
+/// How often each number is printed, 0 for a recording.
+fn refusals(journals: &[Vec<u8>]) -> BTreeMap<u32, u32> {
+    let mut numbers = BTreeMap::new();
+    for journal in journals {
+        *numbers.entry(traits(journal).refusal).or_insert(0) += 1;
+    }
+    numbers
+}
+
+fn has_every_kind(journals: &[Vec<u8>]) {
+    let numbers = refusals(journals);
     let kinds: Vec<u32> = numbers.keys().copied().collect();
     assert_eq!(kinds, [0, 4, 12, 13, 15, 16, 17, 18, 19]);
-    assert!(numbers.values().all(|&times| times >= 8));
-    assert!(turned >= 20 && above >= 20);
+    // A journal of a known edition meets 15 only where it has one byte.
+    let often = |(&number, &times): (&u32, &u32)| times >= 4 || number == 15;
+    assert!(numbers.iter().all(often));
+    let traits: Vec<_> = journals.iter().map(|journal| traits(journal)).collect();
+    let times = |has: fn(&Traits) -> bool| traits.iter().filter(|traits| has(traits)).count();
+    assert!(times(|traits| traits.turned_firm) >= 15 && times(|traits| traits.above_16) >= 10);
+    assert!(times(|traits| traits.took_unmarked_check) >= 40);
+    assert!(times(|traits| traits.took_marked_check) >= 40);
 }
 
 #[test]

@@ -1,9 +1,68 @@
-//! Writes journals behind their lengths to one file and the expected lines to another.
+//! Writes journals behind their lengths to one file and the expected lines to another, and prints
+//! what stands out among them, by edition.
 
-use second::{generate, print};
+use second::generate::{self, Traits};
+use second::print;
 use std::collections::BTreeMap;
 
 const SEED: u64 = 2_026;
+
+/// What stands out among the journals of one edition.
+#[derive(Default)]
+struct Tally {
+    journals: u32,
+    numbers: BTreeMap<u32, u32>,
+    sites: BTreeMap<u32, u32>,
+    traits: [u32; TRAITS.len()],
+}
+
+/// What a complete recording may have, with its name.
+type Trait = (&'static str, fn(&Traits) -> bool);
+
+const TRAITS: [Trait; 6] = [
+    ("a provisional mark turned firm", |t| t.turned_firm),
+    ("a provisional mark left", |t| t.left_provisional),
+    ("a recorded line above 16", |t| t.above_16),
+    ("1,000 records", |t| t.records == 1_000),
+    ("an unmarked hand-over of 0 cars taken", |t| {
+        t.took_unmarked_check
+    }),
+    ("a marked hand-over of 0 cars taken", |t| {
+        t.took_marked_check
+    }),
+];
+
+impl Tally {
+    fn add(&mut self, traits: &Traits) {
+        self.journals += 1;
+        *self.numbers.entry(traits.refusal).or_insert(0) += 1;
+        if traits.refusal == 0 {
+            *self.sites.entry(traits.zones).or_insert(0) += 1;
+        }
+        for (times, (_, has)) in self.traits.iter_mut().zip(TRAITS) {
+            *times += u32::from(has(traits));
+        }
+    }
+
+    fn show(&self, edition: u32) {
+        println!("edition {edition} in the header: {}", self.journals);
+        for (refusal, times) in &self.numbers {
+            match refusal {
+                0 => println!("  complete recordings: {times}"),
+                _ => println!("  refused {refusal}: {times}"),
+            }
+        }
+        if self.sites.is_empty() {
+            return;
+        }
+        for (times, (name, _)) in self.traits.iter().zip(TRAITS) {
+            println!("  complete, with {name}: {times}");
+        }
+        for (zones, times) in &self.sites {
+            println!("  complete, with {zones} zones: {times}");
+        }
+    }
+}
 
 fn main() {
     let arguments: Vec<String> = std::env::args().collect();
@@ -17,38 +76,21 @@ fn main() {
     let journals = generate::journals(SEED, number);
     let mut bytes = Vec::new();
     let mut lines = String::new();
-    let mut numbers = BTreeMap::new();
-    let (mut turned, mut provisional, mut above, mut full) = (0, 0, 0, 0);
-    let mut sites = BTreeMap::new();
+    let mut tallies: BTreeMap<u32, Tally> = BTreeMap::new();
     for journal in &journals {
         let length = u16::try_from(journal.len()).expect("a length fits 16 bits");
         bytes.extend(length.to_be_bytes());
         bytes.extend(journal);
         lines += &print::line(journal);
-        let traits = generate::traits(journal);
-        *numbers.entry(traits.refusal).or_insert(0) += 1;
-        turned += u32::from(traits.turned_firm);
-        provisional += u32::from(traits.left_provisional);
-        above += u32::from(traits.above_16);
-        full += u32::from(traits.records == 1_000);
-        if traits.refusal == 0 {
-            *sites.entry(traits.zones).or_insert(0) += 1;
-        }
+        let tally = tallies.entry(generate::edition_of(journal)).or_default();
+        tally.add(&generate::traits(journal));
     }
     std::fs::write(&arguments[1], &bytes).expect("the journals can be written");
     std::fs::write(&arguments[2], &lines).expect("the lines can be written");
+    let longest = journals.iter().map(Vec::len).max().unwrap_or(0);
     println!("journals {}, bytes {}", journals.len(), bytes.len());
-    for (refusal, times) in numbers {
-        match refusal {
-            0 => println!("complete recordings: {times}"),
-            _ => println!("refused {refusal}: {times}"),
-        }
-    }
-    println!("complete, with a provisional mark turned firm: {turned}");
-    println!("complete, with a provisional mark left: {provisional}");
-    println!("complete, with a recorded line above 16: {above}");
-    println!("complete, with 1,000 records: {full}");
-    for (zones, times) in sites {
-        println!("complete, with {zones} zones: {times}");
+    println!("bytes of the longest: {longest}");
+    for (edition, tally) in tallies {
+        tally.show(edition);
     }
 }

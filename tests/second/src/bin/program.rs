@@ -2,6 +2,7 @@
 //! prints with the line of this implementation. Then makes its reads and writes fail and compares
 //! what it says on standard error.
 
+use second::edition::EDITIONS;
 use second::generate;
 use second::print;
 use second::random::{finish, Random};
@@ -132,15 +133,15 @@ fn split(mut bytes: &[u8]) -> Vec<Input> {
     inputs
 }
 
-/// The inputs at the edges: nothing, the shortest, the longest journal, too long ones, and one whose
-/// printed line is long.
+/// The inputs at the edges: nothing, the shortest, the longest journal, too long ones, and those
+/// whose printed lines are long.
 fn made() -> Vec<Input> {
-    let (longest, widest) = (
-        generate::bytes_of(&longest()),
-        generate::bytes_of(&widest()),
-    );
+    let longest = generate::bytes_of(&longest());
     assert_eq!(longest.len(), 2_018);
-    assert_eq!(print::line(&widest).len(), 3 * (2 + 4 * 8 + 2 * 881));
+    let [widest, widest_2] = EDITIONS.map(|edition| generate::bytes_of(&widest(edition)));
+    for (widest, items) in [(&widest, 881), (&widest_2, 881 - 49)] {
+        assert_eq!(print::line(widest).len(), 3 * (2 + 4 * 8 + 2 * items));
+    }
     let followed = |length: usize| {
         let mut bytes = longest.clone();
         bytes.resize(length, 0);
@@ -157,6 +158,7 @@ fn made() -> Vec<Input> {
         Input::new("the longest and zeros", followed(100_000)),
         Input::new("zeros", vec![0; 100_000]),
         Input::new("many items", widest),
+        Input::new("many items and line checks", widest_2),
     ]
 }
 
@@ -176,7 +178,7 @@ fn ring(run: &mut Run, records: usize) {
 
 /// A run of 8 zones and 1,000 accepted records with a complete recording.
 fn longest() -> Run {
-    let (_, mut run) = Run::open(8, &[1_000; 8]);
+    let (_, mut run) = Run::open(1, 8, &[1_000; 8]);
     ring(&mut run, 500);
     assert_eq!(run.start(1), 0);
     finish(&mut Random::new(1), &mut run);
@@ -186,9 +188,9 @@ fn longest() -> Run {
 
 /// A run of 8 zones and 1,000 accepted records whose recording has 881 items: zone 1 has heard all
 /// others and starts; these fill their lines before they take its requests, and zone 1 takes some
-/// items after its mark.
-fn widest() -> Run {
-    let (_, mut run) = Run::open(8, &[8_000; 8]);
+/// items after its mark. In edition 2 the 49 of 0 cars are line checks and not shown.
+fn widest(edition: u32) -> Run {
+    let (_, mut run) = Run::open(edition, 8, &[8_000; 8]);
     for zone in 2..=8 {
         assert_eq!(run.hand_over(zone, 1, 1), 0);
         assert_eq!(run.receipt(zone, 1), 0);
@@ -311,7 +313,7 @@ fn broken(bytes: &[u8]) -> Stdio {
 
 /// Standard outputs that take nothing, or a part of the line.
 fn unwritten(program: &str, scratch: &str) -> Vec<Failed> {
-    let journal = generate::bytes_of(&widest());
+    let journal = generate::bytes_of(&widest(1));
     let given = |script: &str, output: Stdio| {
         let mut child = prepared(script, program, Stdio::piped(), output);
         // Where the output is a pipe, its reader goes away before there is an answer.
