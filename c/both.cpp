@@ -17,14 +17,14 @@ static void must(bool holds, const char *what)
 
 int main()
 {
-    const cut_opening opening = cut_zone_open(3, 1, 10);
-    must(opening.refusal == CUT_ACCEPTED && opening.zone.stock == 10, "the zone opens");
+    const cut_opening opening = cut_zone_open(2, 3, 1, 10);
+    must(opening.refusal == CUT_ACCEPTED && opening.zone.stock == 10 && opening.zone.edition == 2, "the zone opens");
     const cut_step step = cut_zone_send(opening.zone, 2, 11);
     must(step.refusal == CUT_REFUSED_STOCK_TOO_LOW && step.zone.stock == 10, "11 of 10 cars are refused");
 
     cut_run run;
     const std::uint16_t stocks[] = {10, 20, 30};
-    must(cut_open(&run, 3, stocks, 3) == CUT_ACCEPTED && run.head.zones[2].stock == 30, "the site opens");
+    must(cut_open(&run, 2, 3, stocks, 3) == CUT_ACCEPTED && run.head.zones[2].stock == 30, "the site opens");
     const std::uint8_t refusal = cut_receive(&run, 1, 2);
     must(refusal == CUT_REFUSED_CHANNEL_EMPTY, "nothing is on the line from 1 to 2");
     must(std::strcmp(cut_refusal_words(refusal), "the line is empty") == 0, "its words");

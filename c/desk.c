@@ -1,5 +1,5 @@
 /* A control room's desk: a whole run of three zones with 10, 20 and 30 cars, from the opening to the recording's bytes, then the same from
- * the journal alone. Prints the recording; exits 1 if a value is not as it must be. */
+ * the journal alone, and line checks. Prints the recording; exits 1 if a value is not as it must be. */
 #include <stdio.h>
 #include <stdlib.h>
 #include <string.h>
@@ -76,12 +76,33 @@ static void unlooked(void)
     must(other.head.zones[7].mark == 3 && other.head.records == run.head.records, "and left as it was");
 }
 
+/* Zone 1 checks its line to zone 2, which then starts: in edition 2 the check draws nobody into the recording, in edition 1 it does. */
+static void checked(void)
+{
+    const uint16_t stocks[] = {5, 7};
+    const uint8_t shown[] = {0x44, 0x00, 0x00, 0x00, 0x00, 0x05, 0x80, 0x00, 0x00, 0x07};
+    uint8_t bytes[CUT_RECORDING_BYTES];
+    cut_run other;
+    must(cut_open(&other, 3, 2, stocks, 2) == CUT_REFUSED_EDITION, "edition 3 is not known");
+    for (uint8_t edition = CUT_EDITION_FIRST; edition <= CUT_EDITION_LAST; edition++) {
+        accepted(cut_open(&other, edition, 2, stocks, 2), "a site opens");
+        accepted(cut_send(&other, 1, 2, 0), "1 hands 0 cars to 2");
+        accepted(cut_receive(&other, 1, 2), "2 takes them");
+        accepted(cut_start(&other, 2), "2 starts");
+        cut_written w = cut_record(&other, bytes, sizeof bytes);
+        if (edition == 1)
+            must(w.refusal == CUT_REFUSED_REQUEST_UNDER_WAY, "1 is asked to take part");
+        else
+            must(w.written == sizeof shown && memcmp(bytes, shown, sizeof shown) == 0, "2 is recorded alone, without events");
+    }
+}
+
 int main(void)
 {
     const uint16_t stocks[] = {10, 20, 30};
     uint8_t bytes[CUT_RECORDING_BYTES];
-    must(cut_open(&run, 9, stocks, 3) == CUT_REFUSED_ZONE_COUNT, "9 zones are refused");
-    accepted(cut_open(&run, 3, stocks, 3), "the site opens");
+    must(cut_open(&run, 1, 9, stocks, 3) == CUT_REFUSED_ZONE_COUNT, "9 zones are refused");
+    accepted(cut_open(&run, 1, 3, stocks, 3), "the site opens");
     must(cut_record(&run, bytes, sizeof bytes).refusal == CUT_REFUSED_NOT_STARTED, "nothing was started");
     traffic();
     must(cut_record(&run, bytes, sizeof bytes).refusal == CUT_REFUSED_REQUEST_UNDER_WAY, "a request is under way");
@@ -101,6 +122,7 @@ int main(void)
     must(cut_journal_record(journal, sizeof journal - 1, bytes, sizeof bytes).refusal == CUT_REFUSED_LENGTH, "a cut journal is refused");
     damaged();
     unlooked();
+    checked();
 
     for (size_t i = 0; i < w.written; i++)
         printf(i == 0 ? "%02X" : " %02X", bytes[i]);

@@ -1,5 +1,5 @@
-/* Three controllers of 10 cars each on lines of their own, and one recording. Prints each zone's mark; exits 1 if a value is not as it must
- * be. */
+/* Three controllers of 10 cars each on lines of their own, which are checked, and one recording. Prints each zone's mark; exits 1 if a value
+ * is not as it must be. */
 #include <stdio.h>
 #include <stdlib.h>
 
@@ -67,13 +67,25 @@ static void receive(uint8_t from, uint8_t to)
     send_requests(to, r);
 }
 
+/* A line check, in edition 2 a message of 0 cars: both zones are as they were, though the sender's flag travels with it. */
+static void check(uint8_t from, uint8_t to)
+{
+    cut_zone sender = zones[from], receiver = zones[to];
+    send(from, to, 0);
+    receive(from, to);
+    must(zones[from].events == sender.events, "a check is no own event of its sender");
+    must(zones[to].events == receiver.events && zones[to].deps == receiver.deps, "nor of its receiver, which has not heard it");
+    must(zones[to].mark == receiver.mark, "and it marks nobody");
+}
+
 int main(void)
 {
     for (uint8_t k = 1; k <= 3; k++) {
-        cut_opening o = cut_zone_open(3, k, 10);
+        cut_opening o = cut_zone_open(2, 3, k, 10);
         accepted(o.refusal, "open");
         zones[k] = o.zone;
     }
+    check(2, 3);
     send(3, 2, 1);
     receive(3, 2);
     send(2, 1, 1);
@@ -82,6 +94,7 @@ int main(void)
     accepted(r.refusal, "start");
     zones[1] = r.zone;
     send_requests(1, r);
+    check(1, 3);
     send(1, 3, 2);
     receive(1, 3);
     receive(1, 2);
@@ -95,5 +108,6 @@ int main(void)
     unsound.mark = 3;
     r = cut_zone_send(unsound, 2, 1);
     must(r.refusal == CUT_REFUSED_UNSOUND && r.zone.mark == 3 && r.zone.stock == unsound.stock, "a mark above 2 is refused as it came");
+    must(cut_zone_open(3, 3, 1, 10).refusal == CUT_REFUSED_EDITION, "edition 3 is not known");
     return 0;
 }

@@ -1,6 +1,6 @@
 /* The controller's loop of docs/INTEGRATION.md, run as it stands there: tools/installed.sh takes it out of the document into loop.inc. Zone 1
- * of 3 hands over, takes, waits for room, turns firm by a request, sends its own and drops the next; zone 2 starts. Exits 1 if a value is not
- * as it must be. */
+ * of 3 hands over, takes, waits for room, turns firm by a request, sends its own and drops the next; zone 2 starts; zone 3 checks lines. Exits
+ * 1 if a value is not as it must be. */
 #include <stdint.h>
 #include <stdio.h>
 #include <stdlib.h>
@@ -66,7 +66,7 @@ static void must_log(unsigned times, int kind, uint8_t from, uint8_t to, uint8_t
 
 int main(void)
 {
-    zone = cut_zone_open(3, 1, 10).zone;
+    zone = cut_zone_open(1, 3, 1, 10).zone;
     must(hand_over(2, 11) == CUT_REFUSED_STOCK_TOO_LOW && line.times == 0 && entry.times == 0, "11 of 10 cars are refused");
     must(hand_over(2, 4) == CUT_ACCEPTED, "4 cars are handed to 2");
     must_put(1, 2, 4, "they are on the line");
@@ -93,12 +93,20 @@ int main(void)
     must(entry.times == 6, "and is in no log");
     must(take(2, 768) == CUT_REFUSED_ZONE && take(2, 512 + 8) == CUT_REFUSED_ZONE && taken == 2, "no item of this site");
 
-    zone = cut_zone_open(3, 2, 10).zone;
+    zone = cut_zone_open(1, 3, 2, 10).zone;
     full = 1;
     must(take(1, 4) == CUT_ACCEPTED && start() == WAITS && sent == 1, "the start of zone 2, which heard from 1, waits for room to 1");
     full = 0;
     must(start() == CUT_ACCEPTED && sent == 2, "and then sends a request");
     must_put(4, 1, 512 + 3, "to 1, with its heard set");
     must_log(8, STARTED, 2, 2, 0, 0, "and its start is in the log");
+
+    zone = cut_zone_open(2, 3, 3, 10).zone;
+    must(hand_over(1, 4) == CUT_ACCEPTED && zone.events == 1, "zone 3, of edition 2, hands 4 cars to 1");
+    must(hand_over(1, 0) == CUT_ACCEPTED && zone.events == 1, "a hand-over of 0 cars is a line check there");
+    must_put(6, 1, 0, "which is on the line");
+    must_log(10, HANDED, 3, 1, 0, 0, "and in the log, as no own event");
+    must(take(2, 256) == CUT_ACCEPTED && zone.deps == 4 && zone.mark == CUT_MARK_NONE, "one that is taken is not heard and causes no mark");
+    must_log(11, TOOK, 2, 3, 0, 0, "and is in the log in the same way");
     return 0;
 }

@@ -36,7 +36,7 @@ static OWN void nothing(void)
 
 static OWN void call_zone_open(void)
 {
-    told(cut_zone_open(8, 1, 100).refusal);
+    told(cut_zone_open(2, 8, 1, 100).refusal);
 }
 
 static OWN void call_zone_send(void)
@@ -79,7 +79,7 @@ static OWN void call_zone_next(void)
 
 static OWN void call_open(void)
 {
-    told(cut_open(&run, first.head.count, first.head.opening, first.head.count));
+    told(cut_open(&run, first.head.edition, first.head.count, first.head.opening, first.head.count));
 }
 
 static OWN void call_send(void)
@@ -179,13 +179,13 @@ static size_t used(void (*call)(void))
 static void prepare(void)
 {
     const uint16_t stocks[] = {1000, 1000, 1000};
-    told(cut_open(&first, 3, stocks, 3));
+    told(cut_open(&first, 2, 3, stocks, 3));
     for (int k = 0; k < 490; k++) {
         told(cut_send(&first, (uint8_t)(k % 3 + 1), (uint8_t)((k + 1) % 3 + 1), 1));
         told(cut_receive(&first, (uint8_t)(k % 3 + 1), (uint8_t)((k + 1) % 3 + 1)));
     }
     told(cut_send(&first, 1, 2, 1));
-    heard = cut_zone_receive(cut_zone_open(8, 1, 100).zone, 2, 1, 0).zone;
+    heard = cut_zone_receive(cut_zone_open(2, 8, 1, 100).zone, 2, 1, 0).zone;
 }
 
 int main(void)

@@ -9,14 +9,20 @@
 
 /* The version of the calls and structs. The major number, which is the library's soname too, is raised when a program would have to be
  * compiled anew. */
-#define CUT_VERSION_MAJOR 1
+#define CUT_VERSION_MAJOR 2
 #define CUT_VERSION_MINOR 0
 #define CUT_VERSION_PATCH 0
-#define CUT_VERSION "1.0.0"
+#define CUT_VERSION "2.0.0"
 
-/* The first and the last "edition" of journals and recordings that this version knows. A journal of another one is refused with 15. */
+/* The first and the last "edition" of zones, runs, journals and recordings that this version knows. An opening that names another one and a
+ * journal of another one are refused with 15, a zone or a run of another one with 1.
+ *
+ * Edition 2 is edition 1, but a message ("hand-over") of 0 cars is a line check there, and no traffic. It is sent and received by the same
+ * calls, with its flag ("marked bit"), takes a place on its channel ("line") and, in a run, a record. But it is no "own event" of its sender
+ * or its receiver, adds nothing to a dependency set ("heard set"), causes no checkpoint ("mark") and is not shown in a snapshot
+ * ("recording"). */
 #define CUT_EDITION_FIRST 1
-#define CUT_EDITION_LAST 1
+#define CUT_EDITION_LAST 2
 
 /* The limits: the "zones" of a site; the "records" of a run, and the "own events" of a zone in the zone part; the "cars" of a site, its
  * stocks and what is on its channels ("lines") together, and so the "stock" of a zone. */
@@ -57,7 +63,8 @@ enum cut_refusal {
     CUT_REFUSED_REQUEST_UNDER_WAY = 13,
     /* "Are the lent bytes enough?" No: too few bytes were lent. */
     CUT_REFUSED_TOO_FEW_BYTES = 14,
-    /* "Has the journal two bytes and edition 1?" No: not a journal of edition 1. */
+    /* "Has the journal two bytes and edition 1", or 2? In an opening: is the edition that it names 1 or 2? No: the edition is not 1 or 2, or
+     * (reading) there is no header. */
     CUT_REFUSED_EDITION = 15,
     /* "Is the zones field 1 to 7 and the record number at most 1,000?" No: the header's zones or records are out of range. */
     CUT_REFUSED_HEADER = 16,
@@ -128,7 +135,7 @@ static inline const char *cut_refusal_words(uint8_t refusal)
     case CUT_REFUSED_TOO_FEW_BYTES:
         return "too few bytes were lent";
     case CUT_REFUSED_EDITION:
-        return "not a journal of edition 1";
+        return "the edition is not 1 or 2, or (reading) there is no header";
     case CUT_REFUSED_HEADER:
         return "the header's zones or records are out of range";
     case CUT_REFUSED_LENGTH:

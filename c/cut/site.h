@@ -3,7 +3,7 @@
  * A control room keeps one cut_run and passes it to each call:
  *
  *     static cut_run run;
- *     if (cut_open(&run, count, stocks, count) != CUT_ACCEPTED)
+ *     if (cut_open(&run, edition, count, stocks, count) != CUT_ACCEPTED)
  *         return;
  *     uint8_t refusal = cut_send(&run, from, to, cars);
  *
@@ -12,10 +12,10 @@
  * be null, also where a length is 0, must name as many values as the length or the array's type says, and what is written through one must
  * not overlap what another names.
  *
- * A run is sound where count is 2 to 8, records is at most 1,000, no zone of the site has more own events than there are records, every set
- * of its zones and requests names only zones of the site, no channel ("line") has more than 16 items, stocks and cars on channels are at
- * most 65,535 together, and no mark is above 2. Recording and journal writing also ask whether the run is what its journal replays to. A
- * call on any other run is refused with 1.
+ * A run is sound where edition is 1 or 2, count is 2 to 8, records is at most 1,000, no zone of the site has more own events than there are
+ * records, every set of its zones and requests names only zones of the site, no channel ("line") has more than 16 items, stocks and cars on
+ * channels are at most 65,535 together, and no mark is above 2. Recording and journal writing also ask whether the run is what its journal
+ * replays to under its edition. A call on any other run is refused with 1.
  *
  * The calls keep no state of their own, allocate nothing, never block and always return, so that threads may call at once on different runs;
  * cut_record and cut_write only read theirs, and may share it. The header is C11 or C++11, the library for x86-64 with System V calls; of
@@ -24,12 +24,12 @@
  * Whoever has a journal and wants its recording needs cut_journal_record alone.
  *
  * Journal and recording are 16-bit words, high byte first.
- * Journal: 1 * 8192 + (zones - 1) * 1024 + number of records; the opening stock of each zone; a word a record:
+ * Journal: edition * 8192 + (zones - 1) * 1024 + number of records; the opening stock of each zone; a word a record:
  *     kind * 16384 + (first zone - 1) * 2048 + (second zone - 1) * 256 + cars
  * with kind 0 a message ("hand-over") from first to second, kind 1 a "receipt" on that channel (cars 0), kind 2 a "start" by the first (both
  * others 0).
- * Recording: 1 * 8192 + (zones - 1) * 1024 + number of items; for each zone 32768 where it is permanent ("firm") plus its events, then its
- * stock; then each item on a channel as a record of kind 0, by sender, then receiver, then order sent. */
+ * Recording: edition * 8192 + (zones - 1) * 1024 + number of items; for each zone 32768 where it is permanent ("firm") plus its events, then
+ * its stock; then each item on a channel as a record of kind 0, by sender, then receiver, then order sent; in edition 2 those with cars. */
 #ifndef CUT_SITE_H
 #define CUT_SITE_H
 
@@ -63,20 +63,20 @@ extern "C" {
 /* A "zone" of a run. 10 bytes, alignment 2. */
 typedef struct cut_local {
     uint16_t stock;  /* the "stock": the cars in the zone */
-    uint16_t events; /* the "own events": messages ("hand-overs") sent and received */
+    uint16_t events; /* the "own events": messages ("hand-overs") sent and received, in edition 2 those with cars */
     uint8_t deps;    /* the dependency set ("heard set"): the zone and those that it received messages from before its checkpoint */
     uint8_t mark;    /* the kind of its checkpoint ("mark: none, provisional or firm"), an enum cut_mark_kind */
     cut_saved saved; /* what the checkpoint keeps; with CUT_MARK_NONE it means nothing, and an accepted call writes it as 0 */
 } cut_local;
 
-/* What a "run" has beside its channels and its journal. 100 bytes, alignment 2; the byte behind count is padding, so runs are compared by
- * their fields.
+/* What a "run" has beside its channels and its journal. 100 bytes, alignment 2, without padding.
  *
  * Zone k stands at index k - 1. What stands behind the last zone of the site, in zones and in opening, is looked at by nobody, but for a mark
  * above 2, which is refused with 1 there too. Opening writes there an unmarked zone with stock 0 that has heard itself alone, and the
  * opening stock 0; an accepted call keeps what is there, and writes saved as 0 where mark is 0. */
 typedef struct cut_head {
     uint8_t count;                   /* the "zone count" */
+    uint8_t edition;                 /* the "edition" that its opening named, or its journal has */
     uint16_t records;                /* the number of "records" */
     cut_local zones[CUT_ZONES_MAX];  /* the "zones" */
     uint16_t opening[CUT_ZONES_MAX]; /* the "opening stock" of each */
@@ -105,7 +105,7 @@ typedef struct cut_run {
 
 /* What opening answers. 4,214 bytes, alignment 2. */
 typedef struct cut_answer {
-    cut_run run;     /* the first run; refused, one of 2 zones with stock 0 */
+    cut_run run;     /* the first run; refused, one of 2 zones with stock 0, edition 1 */
     uint8_t refusal; /* the "refusal", an enum cut_refusal */
 } cut_answer;
 
@@ -117,7 +117,7 @@ typedef struct cut_head_answer {
 
 /* What reading answers. 4,232 bytes, alignment 8. */
 typedef struct cut_reading {
-    cut_run run;     /* the run that the journal replays to; refused, one of 2 zones with stock 0 */
+    cut_run run;     /* the run that the journal replays to; refused, one of 2 zones with stock 0, edition 1 */
     size_t position; /* the "position" of the record that is refused with 18 or 19, counted from 0; else 0 */
     uint8_t refusal; /* the "refusal", an enum cut_refusal */
 } cut_reading;
@@ -134,7 +134,8 @@ CUT_STATIC_ASSERT(sizeof(cut_answer) == 4214 && sizeof(cut_head_answer) == 102, 
 CUT_STATIC_ASSERT(sizeof(cut_reading) == 4232 && sizeof(cut_written) == 24, "the layout that the library has");
 CUT_STATIC_ASSERT(CUT_ALIGNOF(cut_run) == 2 && CUT_ALIGNOF(cut_reading) == 8, "the layout that the library has");
 CUT_STATIC_ASSERT(CUT_ALIGNOF(cut_head_answer) == 2 && CUT_ALIGNOF(cut_written) == 8, "the layout that the library has");
-CUT_STATIC_ASSERT(offsetof(cut_head, records) == 2 && offsetof(cut_head, zones) == 4, "the layout that the library has");
+CUT_STATIC_ASSERT(offsetof(cut_head, edition) == 1 && offsetof(cut_head, records) == 2, "the layout that the library has");
+CUT_STATIC_ASSERT(offsetof(cut_head, zones) == 4 && offsetof(cut_head, opening) == 84, "the layout that the library has");
 CUT_STATIC_ASSERT(offsetof(cut_run, items) == 100 && offsetof(cut_run, lens) == 2148, "the layout that the library has");
 CUT_STATIC_ASSERT(offsetof(cut_run, journal) == 2212 && offsetof(cut_reading, position) == 4216, "the layout that the library has");
 CUT_STATIC_ASSERT(CUT_JOURNAL_BYTES == 2 + 2 * CUT_ZONES_MAX + 2 * CUT_RECORDS_MAX, "a word a zone and a word a record");
@@ -144,7 +145,7 @@ CUT_STATIC_ASSERT(CUT_RECORDING_BYTES == 2 + 4 * CUT_ZONES_MAX + 2 * CUT_RECORDS
  * words). Programs use the calls on a cut_run below them, which take the same and say what is refused. */
 
 /* cut_open ("open"); refused, it hands back a run too. Stack: CUT_OPEN_STACK. */
-cut_answer cut_site_open(uint8_t count, const uint16_t *stocks, size_t n);
+cut_answer cut_site_open(uint8_t edition, uint8_t count, const uint16_t *stocks, size_t n);
 
 /* cut_send ("hand-over"). Stack: CUT_CALL_STACK. */
 cut_head_answer cut_site_send(cut_head head, uint16_t *items, uint8_t *lens, uint16_t *journal, uint8_t from, uint8_t to, uint8_t cars);
@@ -161,28 +162,30 @@ cut_written cut_site_record(cut_head head, const uint16_t *items, const uint8_t 
 /* cut_write ("journal writing"). Stack: CUT_WRITE_STACK. */
 cut_written cut_journal_write(cut_head head, const uint16_t *items, const uint8_t *lens, const uint16_t *journal, uint8_t *out, size_t size);
 
-/* Reads a journal of `size` bytes ("reading"). Refused with: 15 it has no header of edition 1; 16 the header's zones or records are out of
- * range; 17 its length does not fit the header; 4 the stocks sum to more than 65,535; then for each record in turn 18 it is not well
- * formed, 19 its call is not accepted. Stack: CUT_JOURNAL_READ_STACK, of which the answer takes 4,232 bytes. */
+/* Reads a journal of `size` bytes ("reading"); it is replayed under its own edition. Refused with: 15 it has no header, of two bytes, or its
+ * edition is not 1 or 2; 16 the header's zones or records are out of range; 17 its length does not fit the header; 4 the stocks sum to more
+ * than 65,535; then for each record in turn 18 it is not well formed, 19 its call is not accepted. Stack: CUT_JOURNAL_READ_STACK, of which
+ * the answer takes 4,232 bytes. */
 cut_reading cut_journal_read(const uint8_t *bytes, size_t size);
 
 /* Reads a journal of `size` bytes and writes its snapshot ("recording") to `room` bytes; CUT_RECORDING_BYTES are enough. Refused with:
  * reading's numbers, then 12, 13, 14. Stack: CUT_JOURNAL_RECORD_STACK. */
 cut_written cut_journal_record(const uint8_t *bytes, size_t size, uint8_t *out, size_t room);
 
-/* Opens a site of `count` zones with their n stocks ("open"). Refused with: 2 the count is not 2 to 8; 3 n is not the count; 4 the stocks sum
- * to more than 65,535. Then *run is as it was. Stack: CUT_OPEN_STACK, of which the library's answer takes 4,214 bytes. */
-static inline uint8_t cut_open(cut_run *run, uint8_t count, const uint16_t *stocks, size_t n)
+/* Opens a site of `count` zones with their n stocks under an edition ("open"). Refused with: 15 the edition is not 1 or 2; 2 the count is not
+ * 2 to 8; 3 n is not the count; 4 the stocks sum to more than 65,535. Then *run is as it was. Stack: CUT_OPEN_STACK, of which the library's
+ * answer takes 4,214 bytes. */
+static inline uint8_t cut_open(cut_run *run, uint8_t edition, uint8_t count, const uint16_t *stocks, size_t n)
 {
-    cut_answer a = cut_site_open(count, stocks, n);
+    cut_answer a = cut_site_open(edition, count, stocks, n);
     if (a.refusal == CUT_ACCEPTED)
         *run = a.run;
     return a.refusal;
 }
 
-/* Sends a message ("hand-over") of `cars` from one zone to another. Refused with: 1 the run is not sound; 5 a zone is not on the site, or both
- * are the same; 6 there are 1,000 records; 7 the sender's stock does not cover the cars; 8 the channel ("line") is full. Stack:
- * CUT_CALL_STACK. */
+/* Sends a message ("hand-over") of `cars` from one zone to another; in edition 2 one of 0 cars is a line check, which takes a place on its
+ * channel and a record and changes no zone. Refused with, a check too: 1 the run is not sound; 5 a zone is not on the site, or both are the
+ * same; 6 there are 1,000 records; 7 the sender's stock does not cover the cars; 8 the channel ("line") is full. Stack: CUT_CALL_STACK. */
 static inline uint8_t cut_send(cut_run *run, uint8_t from, uint8_t to, uint8_t cars)
 {
     cut_head_answer t = cut_site_send(run->head, run->items, run->lens, run->journal, from, to, cars);
@@ -191,8 +194,8 @@ static inline uint8_t cut_send(cut_run *run, uint8_t from, uint8_t to, uint8_t c
     return t.refusal;
 }
 
-/* Receives the first item on the channel from one zone to another ("receipt"). Refused with: 1; 5; 6; 9 the channel ("line") is empty; 10 a
- * channel that must take a request is full. Stack: CUT_CALL_STACK. */
+/* Receives the first item on the channel from one zone to another ("receipt"); a line check leaves its place, takes a record and changes no
+ * zone. Refused with: 1; 5; 6; 9 the channel ("line") is empty; 10 a channel that must take a request is full. Stack: CUT_CALL_STACK. */
 static inline uint8_t cut_receive(cut_run *run, uint8_t from, uint8_t to)
 {
     cut_head_answer t = cut_site_receive(run->head, run->items, run->lens, run->journal, from, to);
@@ -211,9 +214,9 @@ static inline uint8_t cut_start(cut_run *run, uint8_t zone)
     return t.refusal;
 }
 
-/* Writes the snapshot ("recording") to `size` bytes; CUT_RECORDING_BYTES are enough. Refused with: 1, also where the run is not what its
- * journal replays to; 12 no recording was started; 13 a request is still on a channel ("line"); 14 too few bytes are lent. Stack:
- * CUT_RECORD_STACK. */
+/* Writes the snapshot ("recording") to `size` bytes, with the run's edition; CUT_RECORDING_BYTES are enough. Refused with: 1, also where the
+ * run is not what its journal replays to; 12 no recording was started; 13 a request is still on a channel ("line"); 14 too few bytes are
+ * lent. Stack: CUT_RECORD_STACK. */
 static inline cut_written cut_record(const cut_run *run, uint8_t *out, size_t size)
 {
     return cut_site_record(run->head, run->items, run->lens, run->journal, out, size);

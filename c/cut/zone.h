@@ -3,7 +3,7 @@
  * A controller keeps one cut_zone, passes it to each call by value and stores the zone of the answer:
  *
  *     static cut_zone zone;
- *     cut_opening o = cut_zone_open(count, number, stock);
+ *     cut_opening o = cut_zone_open(edition, count, number, stock);
  *     if (o.refusal == CUT_ACCEPTED)
  *         zone = o.zone;
  *     cut_step r = cut_zone_send(zone, to, cars);
@@ -12,14 +12,15 @@
  * A call answers CUT_ACCEPTED, or the first refusal of its list, from left to right, that holds (cut_refusal_words gives its words); then a
  * step's zone comes back equal in every field, and flag, to and carried are 0. Every value of every field and argument may be passed.
  *
- * A zone is sound where count is 2 to 8, number is 1 to count, deps names only zones of the site, events is at most 1,000 and mark is at
- * most 2. A step on any other zone is refused with 1.
+ * A zone is sound where edition is 1 or 2, count is 2 to 8, number is 1 to count, deps names only zones of the site, events is at most 1,000
+ * and mark is at most 2. A step on any other zone is refused with 1. All zones of a site are opened with the same edition.
  *
  * The calls keep no state of their own, allocate nothing, never block and always return, so that threads may call at once on different
  * zones. The header is C11 or C++11, the library for x86-64 with System V calls; its zone part uses nothing of the C library. */
 #ifndef CUT_ZONE_H
 #define CUT_ZONE_H
 
+#include <stddef.h>
 #include <stdint.h>
 
 #include "refusal.h"
@@ -39,24 +40,26 @@ typedef struct cut_saved {
     uint16_t events; /* the number of "own events" at that moment */
 } cut_saved;
 
-/* A "zone". 12 bytes, alignment 2. In every set zone k is the bit of weight 2 to the power k - 1. */
+/* A "zone". 14 bytes, alignment 2; the byte behind edition is padding, so zones are compared by their fields. In every set zone k is the bit
+ * of weight 2 to the power k - 1. */
 typedef struct cut_zone {
     uint8_t number;  /* the "zone number", from 1 */
     uint8_t count;   /* the "zone count" of its site */
     uint8_t deps;    /* the dependency set ("heard set"): the zone and those that it received messages from before its checkpoint */
     uint8_t mark;    /* the kind of its checkpoint ("mark: none, provisional or firm"), an enum cut_mark_kind */
     uint16_t stock;  /* the "stock": the cars in the zone */
-    uint16_t events; /* the "own events": messages ("hand-overs") sent and received */
+    uint16_t events; /* the "own events": messages ("hand-overs") sent and received, in edition 2 those with cars */
     cut_saved saved; /* what the checkpoint keeps; with CUT_MARK_NONE it means nothing, and an accepted step writes it as 0 */
+    uint8_t edition; /* the "edition" that its opening named */
 } cut_zone;
 
-/* What opening answers. 14 bytes, alignment 2. */
+/* What opening answers. 16 bytes, alignment 2. */
 typedef struct cut_opening {
-    cut_zone zone;   /* the zone as opened; refused, zone 1 of 2 with stock 0 */
+    cut_zone zone;   /* the zone as opened; refused, zone 1 of 2 with stock 0, edition 1 */
     uint8_t refusal; /* the "refusal", an enum cut_refusal */
 } cut_opening;
 
-/* What a step answers. 16 bytes, alignment 2. */
+/* What a step answers. 18 bytes, alignment 2. */
 typedef struct cut_step {
     cut_zone zone;   /* the next zone; refused, the one that was passed */
     uint8_t refusal; /* the "refusal", an enum cut_refusal */
@@ -65,22 +68,25 @@ typedef struct cut_step {
     uint8_t carried; /* "the set these carry": of each of these requests; 0 where none is sent */
 } cut_step;
 
-CUT_STATIC_ASSERT(sizeof(cut_saved) == 4 && sizeof(cut_zone) == 12, "the layout that the library has");
-CUT_STATIC_ASSERT(sizeof(cut_opening) == 14 && sizeof(cut_step) == 16, "the layout that the library has");
+CUT_STATIC_ASSERT(sizeof(cut_saved) == 4 && sizeof(cut_zone) == 14, "the layout that the library has");
+CUT_STATIC_ASSERT(sizeof(cut_opening) == 16 && sizeof(cut_step) == 18, "the layout that the library has");
 CUT_STATIC_ASSERT(CUT_ALIGNOF(cut_zone) == 2 && CUT_ALIGNOF(cut_step) == 2, "the layout that the library has");
+CUT_STATIC_ASSERT(offsetof(cut_zone, saved) == 8 && offsetof(cut_zone, edition) == 12, "the layout that the library has");
+CUT_STATIC_ASSERT(offsetof(cut_opening, refusal) == 14 && offsetof(cut_step, carried) == 17, "the layout that the library has");
 
-/* Opens zone `number` of `count` ("opening one zone"). Refused with: 2 the count is not 2 to 8; 5 the number is not 1 to count. Stack:
- * CUT_ZONE_STACK. */
-cut_opening cut_zone_open(uint8_t count, uint8_t number, uint16_t stock);
+/* Opens zone `number` of `count` under an edition ("opening one zone"). Refused with: 15 the edition is not 1 or 2; 2 the count is not 2 to 8;
+ * 5 the number is not 1 to count. Stack: CUT_ZONE_STACK. */
+cut_opening cut_zone_open(uint8_t edition, uint8_t count, uint8_t number, uint16_t stock);
 
-/* Sends a message ("hand-over") of `cars` to zone `to`: put it on the channel ("line") with the answer's flag ("marked bit"). Refused with: 1
- * the zone is not sound; 5 `to` is not on the site or is the zone itself; 6 it has 1,000 own events; 7 its stock does not cover the
- * cars. Stack: CUT_ZONE_STACK. */
+/* Sends a message ("hand-over") of `cars` to zone `to`: put it on the channel ("line") with the answer's flag ("marked bit"). In edition 2 one
+ * of 0 cars is a line check: it gets its flag and changes nothing in the zone. Refused with, a check too: 1 the zone is not sound; 5 `to`
+ * is not on the site or is the zone itself; 6 it has 1,000 own events; 7 its stock does not cover the cars. Stack: CUT_ZONE_STACK. */
 cut_step cut_zone_send(cut_zone zone, uint8_t to, uint8_t cars);
 
-/* Receives a message (takes a "hand-over") from zone `from`; any flag ("marked bit") but 0 counts as 1. Refused with: 1; 5 `from` is not on
- * the site or is the zone itself; 6; 20 the stock would exceed 65,535. With 6 and 20 the item stays first on its channel ("line"); with 5 it
- * is no item of this site. Stack: CUT_ZONE_STACK. */
+/* Receives a message (takes a "hand-over") from zone `from`; any flag ("marked bit") but 0 counts as 1. In edition 2 one of 0 cars is a line
+ * check: whatever its flag, it changes nothing in the zone. Refused with, a check too: 1; 5 `from` is not on the site or is the zone itself;
+ * 6; 20 the stock would exceed 65,535. With 6 and 20 the item stays first on its channel ("line"); with 5 it is no item of this site. Stack:
+ * CUT_ZONE_STACK. */
 cut_step cut_zone_receive(cut_zone zone, uint8_t from, uint8_t cars, uint8_t flag);
 
 /* Receives (takes) a "request" with its set: send a request carrying `carried` to each zone of `to`. Refused with: 1; 5 the set names a zone
