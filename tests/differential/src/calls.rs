@@ -4,7 +4,7 @@ use crate::count::{Counts, Failure};
 use crate::pair::{self, Pair};
 use second::generate;
 use second::journal::{self, decode};
-use second::random::{cars, drive, stocks, Habits, Random};
+use second::random::{any_edition, cars, drive, edition, stocks, Habits, Random};
 use second::site::{Call, MOST_RECORDS, PLACES};
 
 type Shape = fn(&mut Counts, &mut Random) -> Result<(), Failure>;
@@ -34,8 +34,23 @@ pub fn trial(counts: &mut Counts, random: &mut Random, index: usize) -> Result<(
     SHAPES[index % SHAPES.len()](counts, random)
 }
 
-/// An opening with any arguments, most of them near what is refused.
+/// Openings with every edition.
+pub fn every(counts: &mut Counts, random: &mut Random) -> Result<(), Failure> {
+    for edition in 0..=255 {
+        for _ in 0..8 {
+            opening(counts, random, edition)?;
+        }
+    }
+    Ok(())
+}
+
 fn openings(counts: &mut Counts, random: &mut Random) -> Result<(), Failure> {
+    let edition = any_edition(random);
+    opening(counts, random, edition)
+}
+
+/// An opening with any other arguments, most of them near what is refused.
+fn opening(counts: &mut Counts, random: &mut Random, edition: u8) -> Result<(), Failure> {
     let count = match random.below(4) {
         0 => random.within(0, 255),
         _ => random.within(0, 10),
@@ -54,7 +69,7 @@ fn openings(counts: &mut Counts, random: &mut Random) -> Result<(), Failure> {
         let last = stocks.len() - 1;
         stocks[last] = stocks[last].saturating_add(random.below(2) as u16);
     }
-    pair::open(counts, count as u8, &stocks)?;
+    pair::open(counts, edition, count as u8, &stocks)?;
     Ok(())
 }
 
@@ -63,8 +78,8 @@ fn opened<'a>(
     random: &mut Random,
     zones: u32,
 ) -> Result<Pair<'a>, Failure> {
-    let stocks = stocks(random, zones);
-    Pair::open(counts, random, &stocks)
+    let (edition, stocks) = (edition(random), stocks(random, zones));
+    Pair::open(counts, random, edition, &stocks)
 }
 
 /// Two different zones of a site.
@@ -116,7 +131,7 @@ fn drawn(counts: &mut Counts, random: &mut Random) -> Result<(), Failure> {
     let length = [20, 60, 120, 400][random.below(4)];
     let mut pair = opened(counts, random, zones)?;
     let mut failure = None;
-    drive(random, zones, length, &mut |call| {
+    drive(random, pair.run.edition, zones, length, &mut |call| {
         if failure.is_some() {
             return 0;
         }
@@ -134,13 +149,14 @@ fn drawn(counts: &mut Counts, random: &mut Random) -> Result<(), Failure> {
 
 /// The calls of a generated journal; in some lists stray calls stand between them.
 fn replay(counts: &mut Counts, random: &mut Random, kind: usize) -> Result<(), Failure> {
-    let run = journal::read(&generate::accepted(random, kind)).run;
+    let edition = edition(random);
+    let run = journal::read(&generate::accepted(random, edition, kind)).run;
     let strays = if random.chance(40) {
         random.within(1, 8)
     } else {
         0
     };
-    let mut pair = Pair::open(counts, random, &run.opening[..run.size()])?;
+    let mut pair = Pair::open(counts, random, edition, &run.opening[..run.size()])?;
     for &word in &run.records {
         if random.chance(strays) {
             pair.call(stray(random, run.count))?;
@@ -225,8 +241,7 @@ fn wide(counts: &mut Counts, random: &mut Random) -> Result<(), Failure> {
     let mut pair = opened(counts, random, zones)?;
     for zone in 1..=zones {
         let next = zone % zones + 1;
-        pair.send(next, zone, 0)?;
-        pair.receive(next, zone)?;
+        pair.hear(next, zone)?;
     }
     pair.start(random.within(1, zones))?;
     for _ in 0..random.within(1, 14) {
@@ -249,8 +264,7 @@ fn blocked_start(counts: &mut Counts, random: &mut Random) -> Result<(), Failure
     for _ in 0..random.within(1, 3) {
         let other = (starter - 1 + random.within(1, zones - 1)) % zones + 1;
         pair.send(other, starter, cars(random))?;
-        pair.send(other, starter, 0)?;
-        pair.receive(other, starter)?;
+        pair.hear(other, starter)?;
         for _ in 0..PLACES {
             pair.send(starter, other, random.below(2) as u8)?;
             pair.send(starter, other, 0)?;
@@ -275,10 +289,8 @@ fn blocked_receipt(counts: &mut Counts, random: &mut Random) -> Result<(), Failu
         .filter(|&zone| zone != first && zone != second)
         .collect();
     let third = others[random.below(others.len())];
-    pair.send(third, second, 0)?;
-    pair.receive(third, second)?;
-    pair.send(second, first, 0)?;
-    pair.receive(second, first)?;
+    pair.hear(third, second)?;
+    pair.hear(second, first)?;
     for _ in 0..PLACES {
         pair.send(second, third, random.below(2) as u8)?;
         pair.send(second, third, 0)?;
@@ -286,10 +298,8 @@ fn blocked_receipt(counts: &mut Counts, random: &mut Random) -> Result<(), Failu
     pair.start(first)?;
     if random.chance(50) {
         // A marked hand-over gives the second zone a provisional mark before its request.
-        pair.send(first, third, 0)?;
-        pair.receive(first, third)?;
-        pair.send(third, second, 0)?;
-        pair.receive(third, second)?;
+        pair.hear(first, third)?;
+        pair.hear(third, second)?;
     }
     pair.receive(first, second)?;
     pair.receive(second, third)?;
@@ -303,7 +313,8 @@ fn poor(counts: &mut Counts, random: &mut Random) -> Result<(), Failure> {
     let zones = random.within(2, 8);
     let most = [3, 40, 300][random.below(3)];
     let stocks: Vec<u16> = (0..zones).map(|_| random.within(0, most) as u16).collect();
-    let mut pair = Pair::open(counts, random, &stocks)?;
+    let edition = edition(random);
+    let mut pair = Pair::open(counts, random, edition, &stocks)?;
     for _ in 0..random.within(10, 120) {
         let (from, to) = two(random, zones);
         let stock = pair.run.zones[from as usize - 1].stock;

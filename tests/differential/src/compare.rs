@@ -70,6 +70,7 @@ fn locals(index: usize, expected: &PlainLocal, proved: &PlainLocal) -> Check {
 /// Compares every field of two runs, storage off the site included.
 pub fn runs(expected: &PlainRun, proved: &PlainRun) -> Check {
     one("run.count", expected.count, proved.count)?;
+    one("run.edition", expected.edition, proved.edition)?;
     one("run.records", expected.records, proved.records)?;
     for (index, zone) in expected.zones.iter().enumerate() {
         locals(index, zone, &proved.zones[index])?;
@@ -87,7 +88,8 @@ fn zones(expected: &PlainZone, proved: &PlainZone) -> Check {
     one("zone.mark", expected.mark, proved.mark)?;
     one("zone.stock", expected.stock, proved.stock)?;
     one("zone.events", expected.events, proved.events)?;
-    one("zone.saved", expected.saved, proved.saved)
+    one("zone.saved", expected.saved, proved.saved)?;
+    one("zone.edition", expected.edition, proved.edition)
 }
 
 impl Answer for PlainAnswer {

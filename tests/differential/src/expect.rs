@@ -4,6 +4,7 @@ use crate::compare::Output;
 use crate::ffi::{self, PlainAnswer, PlainReading, PlainRun, PlainWritten};
 use crate::header;
 use crate::plain;
+use second::generate::edition_of;
 use second::print::MOST_BYTES;
 use second::random::Random;
 use second::site::{Call, Run};
@@ -94,6 +95,11 @@ pub fn recording(run: Option<&Run>) -> Made {
 
 pub fn journal(run: Option<&Run>) -> Made {
     made(run, journal::write)
+}
+
+/// The edition of a journal's header; 0, which is none, where it has no header.
+pub fn edition(bytes: &[u8]) -> u32 {
+    bytes.get(..2).map_or(0, edition_of)
 }
 
 /// What cut_journal_record makes of a reading.

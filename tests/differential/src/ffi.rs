@@ -19,6 +19,7 @@ pub struct PlainZone {
     pub stock: u16,
     pub events: u16,
     pub saved: PlainSaved,
+    pub edition: u8,
 }
 
 #[repr(C)]
@@ -52,6 +53,7 @@ pub struct PlainLocal {
 #[derive(Clone, Copy, Debug, PartialEq, Eq)]
 pub struct PlainRun {
     pub count: u8,
+    pub edition: u8,
     pub records: u16,
     pub zones: [PlainLocal; 8],
     pub opening: [u16; 8],
@@ -65,6 +67,7 @@ pub struct PlainRun {
 #[derive(Clone, Copy, Debug, PartialEq, Eq)]
 pub struct PlainHead {
     pub count: u8,
+    pub edition: u8,
     pub records: u16,
     pub zones: [PlainLocal; 8],
     pub opening: [u16; 8],
@@ -81,6 +84,7 @@ impl PlainRun {
     pub fn head(&self) -> PlainHead {
         PlainHead {
             count: self.count,
+            edition: self.edition,
             records: self.records,
             zones: self.zones,
             opening: self.opening,
@@ -90,6 +94,7 @@ impl PlainRun {
     /// Stores what a call handed back beside the lent arrays, and gives the refusal.
     fn store(&mut self, answer: PlainHeadAnswer) -> u8 {
         self.count = answer.head.count;
+        self.edition = answer.head.edition;
         self.records = answer.head.records;
         self.zones = answer.head.zones;
         self.opening = answer.head.opening;
@@ -121,9 +126,9 @@ pub struct PlainWritten {
 }
 
 // The sizes and offsets that a C compiler gives the structs of the headers.
-const _: () = assert!(size_of::<PlainZone>() == 12);
-const _: () = assert!(size_of::<PlainOpening>() == 14);
-const _: () = assert!(size_of::<PlainStep>() == 16);
+const _: () = assert!(size_of::<PlainZone>() == 14);
+const _: () = assert!(size_of::<PlainOpening>() == 16);
+const _: () = assert!(size_of::<PlainStep>() == 18);
 const _: () = assert!(size_of::<PlainLocal>() == 10);
 const _: () = assert!(size_of::<PlainRun>() == 4_212);
 const _: () = assert!(size_of::<PlainHead>() == 100);
@@ -131,6 +136,8 @@ const _: () = assert!(size_of::<PlainHeadAnswer>() == 102);
 const _: () = assert!(size_of::<PlainAnswer>() == 4_214);
 const _: () = assert!(size_of::<PlainReading>() == 4_232);
 const _: () = assert!(size_of::<PlainWritten>() == 24);
+const _: () = assert!(offset_of!(PlainZone, edition) == 12);
+const _: () = assert!(offset_of!(PlainRun, edition) == 1);
 const _: () = assert!(offset_of!(PlainRun, items) == 100);
 const _: () = assert!(offset_of!(PlainRun, journal) == 2_212);
 
@@ -138,14 +145,14 @@ mod raw {
     use super::*;
 
     extern "C" {
-        pub fn cut_zone_open(count: u8, number: u8, stock: u16) -> PlainOpening;
+        pub fn cut_zone_open(edition: u8, count: u8, number: u8, stock: u16) -> PlainOpening;
         pub fn cut_zone_send(zone: PlainZone, to: u8, cars: u8) -> PlainStep;
         pub fn cut_zone_receive(zone: PlainZone, from: u8, cars: u8, flag: u8) -> PlainStep;
         pub fn cut_zone_request(zone: PlainZone, set: u8) -> PlainStep;
         pub fn cut_zone_start(zone: PlainZone) -> PlainStep;
         pub fn cut_zone_requests(to: u8) -> u32;
         pub fn cut_zone_next(set: u8) -> u8;
-        pub fn cut_site_open(count: u8, stocks: *const u16, n: usize) -> PlainAnswer;
+        pub fn cut_site_open(edition: u8, count: u8, stocks: *const u16, n: usize) -> PlainAnswer;
         pub fn cut_site_send(
             head: PlainHead,
             items: *mut u16,
@@ -199,8 +206,8 @@ mod raw {
 // Every value of every field may be passed, so the calls with values alone are safe. The others
 // get a pointer and a length of one slice, and Rust keeps a mutable one apart from all else.
 
-pub fn cut_zone_open(count: u8, number: u8, stock: u16) -> PlainOpening {
-    unsafe { raw::cut_zone_open(count, number, stock) }
+pub fn cut_zone_open(edition: u8, count: u8, number: u8, stock: u16) -> PlainOpening {
+    unsafe { raw::cut_zone_open(edition, count, number, stock) }
 }
 
 pub fn cut_zone_send(zone: PlainZone, to: u8, cars: u8) -> PlainStep {
@@ -227,8 +234,8 @@ pub fn cut_zone_next(set: u8) -> u8 {
     unsafe { raw::cut_zone_next(set) }
 }
 
-pub fn cut_site_open(count: u8, stocks: &[u16]) -> PlainAnswer {
-    unsafe { raw::cut_site_open(count, stocks.as_ptr(), stocks.len()) }
+pub fn cut_site_open(edition: u8, count: u8, stocks: &[u16]) -> PlainAnswer {
+    unsafe { raw::cut_site_open(edition, count, stocks.as_ptr(), stocks.len()) }
 }
 
 /// The arrays of a run, to be lent.

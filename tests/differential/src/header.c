@@ -2,9 +2,9 @@
  * themselves are compared. */
 #include <cut/site.h>
 
-uint8_t header_open(cut_run *run, uint8_t count, const uint16_t *stocks, size_t n)
+uint8_t header_open(cut_run *run, uint8_t edition, uint8_t count, const uint16_t *stocks, size_t n)
 {
-    return cut_open(run, count, stocks, n);
+    return cut_open(run, edition, count, stocks, n);
 }
 
 uint8_t header_send(cut_run *run, uint8_t from, uint8_t to, uint8_t cars)
@@ -46,7 +46,8 @@ static uint64_t add_zone(uint64_t sum, const cut_zone *zone)
 {
     sum = add(add(sum, zone->number), zone->count);
     sum = add(add(sum, zone->deps), zone->mark);
-    return add_saved(add(add(sum, zone->stock), zone->events), zone->saved);
+    sum = add_saved(add(add(sum, zone->stock), zone->events), zone->saved);
+    return add(sum, zone->edition);
 }
 
 uint64_t header_opening_sum(const cut_opening *opening)
@@ -62,7 +63,7 @@ uint64_t header_step_sum(const cut_step *step)
 
 static uint64_t add_head(uint64_t sum, const cut_head *head)
 {
-    sum = add(add(sum, head->count), head->records);
+    sum = add(add(add(sum, head->count), head->edition), head->records);
     for (int k = 0; k < 8; k++) {
         const cut_local *zone = &head->zones[k];
         sum = add(add(add(add(sum, zone->stock), zone->events), zone->deps), zone->mark);

@@ -9,7 +9,13 @@ mod raw {
     use super::*;
 
     extern "C" {
-        pub fn header_open(run: *mut PlainRun, count: u8, stocks: *const u16, n: usize) -> u8;
+        pub fn header_open(
+            run: *mut PlainRun,
+            edition: u8,
+            count: u8,
+            stocks: *const u16,
+            n: usize,
+        ) -> u8;
         pub fn header_send(run: *mut PlainRun, from: u8, to: u8, cars: u8) -> u8;
         pub fn header_receive(run: *mut PlainRun, from: u8, to: u8) -> u8;
         pub fn header_start(run: *mut PlainRun, zone: u8) -> u8;
@@ -26,8 +32,8 @@ mod raw {
 
 // Each pointer is that of a Rust reference or slice, so the calls are safe.
 
-pub fn open(run: &mut PlainRun, count: u8, stocks: &[u16]) -> u8 {
-    unsafe { raw::header_open(run, count, stocks.as_ptr(), stocks.len()) }
+pub fn open(run: &mut PlainRun, edition: u8, count: u8, stocks: &[u16]) -> u8 {
+    unsafe { raw::header_open(run, edition, count, stocks.as_ptr(), stocks.len()) }
 }
 
 pub fn send(run: &mut PlainRun, from: u8, to: u8, cars: u8) -> u8 {

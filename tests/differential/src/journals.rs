@@ -5,18 +5,14 @@ use crate::expect::{self, Made};
 use crate::ffi;
 use crate::pair;
 use crate::text;
-use second::generate::{accepted, damaged, DAMAGES, SHAPES};
+use second::generate::{journal_of, KINDS};
 use second::journal::{self, words_of};
-use second::random::Random;
+use second::random::{edition, Random};
 
 /// A generated journal, then the same with more and more damage.
 pub fn trial(counts: &mut Counts, random: &mut Random, index: usize) -> Result<(), Failure> {
-    let kind = index % (DAMAGES + SHAPES);
-    let mut bytes = if kind < DAMAGES {
-        damaged(random, kind)
-    } else {
-        accepted(random, kind - DAMAGES)
-    };
+    let edition = edition(random);
+    let mut bytes = journal_of(random, edition, index % KINDS);
     check(counts, random, &bytes)?;
     for _ in 0..random.within(1, 4) {
         spoil(random, &mut bytes);
@@ -36,14 +32,15 @@ fn check(counts: &mut Counts, random: &mut Random, bytes: &[u8]) -> Result<(), F
 }
 
 fn read(counts: &mut Counts, random: &mut Random, bytes: &[u8]) -> Result<(), Found> {
-    let reading = journal::read(bytes);
+    let (edition, reading) = (expect::edition(bytes), journal::read(bytes));
     let proved = ffi::cut_journal_read(bytes);
-    counts.same(Entry::JournalRead, &expect::reading(&reading), &proved)?;
+    let expected = expect::reading(&reading);
+    counts.same(Entry::JournalRead, edition, &expected, &proved)?;
     let recording = expect::recorded(&reading);
     for lent in recording.lents(random) {
         let expected = recording.output(&lent);
         let proved = expect::written(&lent, |out| ffi::cut_journal_record(bytes, out));
-        counts.same(Entry::JournalRecord, &expected, &proved)?;
+        counts.same(Entry::JournalRecord, edition, &expected, &proved)?;
     }
     if reading.refusal == 0 {
         // What is accepted is written back as the same bytes.
@@ -67,7 +64,7 @@ fn noise(random: &mut Random) -> Vec<u8> {
     }
     let mut bytes: Vec<u8> = (0..length).map(|_| random.within(0, 255) as u8).collect();
     if length >= 2 && random.chance(80) {
-        let header = journal::header(zones, records as usize);
+        let header = journal::header(edition(random), zones, records as usize);
         bytes[..2].copy_from_slice(&header.to_be_bytes());
     }
     for zone in 0..zones as usize {

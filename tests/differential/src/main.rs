@@ -14,7 +14,7 @@ type Trial = fn(&mut Counts, &mut Random, usize) -> Result<(), Failure>;
 
 /// The kinds of trials with their numbers in one round.
 const KINDS: [(&str, usize, Trial); 5] = [
-    ("every zone argument", 1, every),
+    ("every zone argument and edition", 1, every),
     ("zones", 20_000, zones::trial),
     ("lists of calls", 12_000, calls::trial),
     ("journals", 6_000, journals::trial),
@@ -22,7 +22,9 @@ const KINDS: [(&str, usize, Trial); 5] = [
 ];
 
 fn every(counts: &mut Counts, random: &mut Random, _: usize) -> Result<(), Failure> {
-    zones::every(counts, random)
+    zones::every(counts, random)?;
+    calls::every(counts, random)?;
+    states::every(counts, random)
 }
 
 /// A seed for each trial, mixed so that no two trials of a round or of near seeds are alike.

@@ -1,16 +1,17 @@
 //! One run kept by both implementations, compared after every call.
 
 use crate::compare::{one, Difference};
-use crate::count::{Counts, Entry, Failure, Found};
+use crate::count::{Check, Counts, Entry, Failure, Found};
 use crate::expect::{self, Made};
 use crate::ffi::{self, PlainAnswer, PlainReading, PlainRun};
 use crate::header;
 use crate::plain;
 use crate::text;
 use second::demand3::{self, Lines, Seen};
+use second::edition::fewest;
 use second::journal::decode;
 use second::random::{finish, Random};
-use second::site::{Call, Run};
+use second::site::{Call, Item, Run};
 use second::zone::{Body, Mark};
 
 pub struct Pair<'a> {
@@ -29,35 +30,41 @@ pub struct Pair<'a> {
 }
 
 /// Compares an opening with any arguments and gives the runs of both.
-pub fn open(counts: &mut Counts, count: u8, stocks: &[u16]) -> Result<(Run, PlainRun), Failure> {
-    let (refusal, run) = Run::open(u32::from(count), stocks);
+pub fn open(
+    counts: &mut Counts,
+    edition: u8,
+    count: u8,
+    stocks: &[u16],
+) -> Result<(Run, PlainRun), Failure> {
+    let named = u32::from(edition);
+    let (refusal, run) = Run::open(named, u32::from(count), stocks);
     let expected = PlainAnswer {
         refusal: expect::number(refusal),
         run: plain::plain_run(&run),
     };
-    let proved = ffi::cut_site_open(count, stocks);
-    let compared = counts.same(Entry::SiteOpen, &expected, &proved);
-    let compared = compared.and_then(|()| open_by_header(counts, count, stocks, &expected));
-    let call = || format!("cut_site_open({count}, {stocks:?})");
+    let proved = ffi::cut_site_open(edition, count, stocks);
+    let compared = counts.same(Entry::SiteOpen, named, &expected, &proved);
+    let compared = compared.and_then(|()| {
+        let mut run = plain::ZEROS;
+        let refusal = header::open(&mut run, edition, count, stocks);
+        opened_by_header(counts, &expected, PlainAnswer { refusal, run })
+    });
+    let call = || format!("cut_site_open({edition}, {count}, {stocks:?})");
     compared.map_err(|found| Failure::new(String::new(), call(), found))?;
     Ok((run, proved.run))
 }
 
-/// Compares the header's opening, which leaves the run as it was where it is refused.
-fn open_by_header(
+/// Compares the header's opening on zeros, which leaves them as they were where it is refused.
+fn opened_by_header(
     counts: &mut Counts,
-    count: u8,
-    stocks: &[u16],
-    accepted: &PlainAnswer,
+    answer: &PlainAnswer,
+    by_header: PlainAnswer,
 ) -> Result<(), Found> {
-    let before = plain::ZEROS;
-    let mut expected = *accepted;
+    let mut expected = *answer;
     if expected.refusal != 0 {
-        expected.run = before;
+        expected.run = plain::ZEROS;
     }
-    let mut run = before;
-    let refusal = header::open(&mut run, count, stocks);
-    counts.equal(Entry::SiteOpen, &expected, &PlainAnswer { refusal, run })
+    counts.equal(Entry::SiteOpen, &expected, &by_header)
 }
 
 /// Says whether a provisional mark has turned firm between two moments.
@@ -85,7 +92,7 @@ pub fn call(
     expected: &PlainAnswer,
 ) -> Result<PlainAnswer, Found> {
     let proved = expect::proved(p, call);
-    counts.same(entry(call), expected, &proved)?;
+    counts.same(entry(call), u32::from(p.edition), expected, &proved)?;
     counts.equal(entry(call), expected, &expect::by_header(p, call))?;
     Ok(proved)
 }
@@ -98,15 +105,18 @@ pub fn writers(
     recording: &Made,
     journal: &Made,
 ) -> Result<(), Found> {
+    let edition = u32::from(p.edition);
     for lent in recording.lents(random) {
         let proved = expect::written(&lent, |out| ffi::cut_site_record(p, out));
-        counts.same(Entry::SiteRecord, &recording.output(&lent), &proved)?;
+        let expected = recording.output(&lent);
+        counts.same(Entry::SiteRecord, edition, &expected, &proved)?;
         let by_header = expect::written(&lent, |out| header::record(p, out));
         counts.equal(Entry::SiteRecord, &proved, &by_header)?;
     }
     for lent in journal.lents(random) {
         let proved = expect::written(&lent, |out| ffi::cut_journal_write(p, out));
-        counts.same(Entry::JournalWrite, &journal.output(&lent), &proved)?;
+        let expected = journal.output(&lent);
+        counts.same(Entry::JournalWrite, edition, &expected, &proved)?;
         let by_header = expect::written(&lent, |out| header::write(p, out));
         counts.equal(Entry::JournalWrite, &proved, &by_header)?;
     }
@@ -114,13 +124,14 @@ pub fn writers(
 }
 
 impl<'a> Pair<'a> {
-    /// Opens a run with stocks that are accepted.
+    /// Opens a run with an edition and stocks that are accepted.
     pub fn open(
         counts: &'a mut Counts,
         random: &mut Random,
+        edition: u32,
         stocks: &[u16],
     ) -> Result<Pair<'a>, Failure> {
-        let (run, plain) = open(counts, stocks.len() as u8, stocks)?;
+        let (run, plain) = open(counts, edition as u8, stocks.len() as u8, stocks)?;
         Ok(Pair {
             run,
             plain,
@@ -134,13 +145,15 @@ impl<'a> Pair<'a> {
     }
 
     fn failure(&self, call: String, found: Found) -> Failure {
-        let opening = format!("  cut_site_open with stocks {:?} -> 0\n", self.opening);
+        let (edition, stocks) = (self.run.edition, &self.opening);
+        let opening = format!("  cut_site_open with edition {edition}, stocks {stocks:?} -> 0\n");
         Failure::new(opening + &text::calls(&self.calls), call, found)
     }
 
     /// Makes a call on both and gives its number.
     pub fn call(&mut self, made: Call) -> Result<u32, Failure> {
         let before = self.run.zones;
+        let check = self.check(made);
         let refusal = self.run.call(made);
         let expected = PlainAnswer {
             refusal: expect::number(refusal),
@@ -151,12 +164,39 @@ impl<'a> Pair<'a> {
         self.plain = proved.run;
         self.calls.push((made, refusal));
         self.turned |= turned(&before, &self.run.zones);
+        if let Some(check) = check.filter(|_| refusal == 0) {
+            self.counts.check(check);
+        }
         self.wait -= 1;
         if self.wait == 0 {
             self.wait = self.random.within(50, 800);
             self.write()?;
         }
         Ok(refusal)
+    }
+
+    /// The hand-over of 0 cars that a receipt would take.
+    fn check(&self, call: Call) -> Option<Check> {
+        let Call::Receipt { from, to } = call else {
+            return None;
+        };
+        let (a, b) = (from.wrapping_sub(1) as usize, to.wrapping_sub(1) as usize);
+        match self.run.lines.get(a)?.get(b)?.front()? {
+            &Item::HandOver { cars: 0, marked } => Some(Check {
+                edition: self.run.edition,
+                alone: false,
+                flag: marked,
+                marked: self.run.zones[b].mark != Mark::None,
+            }),
+            _ => None,
+        }
+    }
+
+    /// Sends the fewest cars that are traffic and receives, so that the receiver hears the sender.
+    pub fn hear(&mut self, from: u32, to: u32) -> Result<(), Failure> {
+        self.send(from, to, fewest(self.run.edition))?;
+        self.receive(from, to)?;
+        Ok(())
     }
 
     pub fn send(&mut self, from: u32, to: u32, cars: u8) -> Result<u32, Failure> {
@@ -205,11 +245,14 @@ impl<'a> Pair<'a> {
             run: self.plain,
         };
         let proved = ffi::cut_journal_read(&bytes);
-        self.counts.same(Entry::JournalRead, &expected, &proved)?;
+        let edition = self.run.edition;
+        self.counts
+            .same(Entry::JournalRead, edition, &expected, &proved)?;
         for lent in recording.lents(random) {
             let expected = recording.output(&lent);
             let proved = expect::written(&lent, |out| ffi::cut_journal_record(&bytes, out));
-            self.counts.same(Entry::JournalRecord, &expected, &proved)?;
+            self.counts
+                .same(Entry::JournalRecord, edition, &expected, &proved)?;
         }
         self.demand_3()
     }
@@ -220,6 +263,7 @@ impl<'a> Pair<'a> {
         let answer = ffi::cut_site_record(&self.plain, &mut bytes);
         let zones = self.opening.len();
         let seen = Seen {
+            edition: self.run.edition,
             opening: self.opening.clone(),
             calls: self.calls.clone(),
             answer: u32::from(answer.refusal),
@@ -245,11 +289,11 @@ impl<'a> Pair<'a> {
         if recording.refusal != 0 {
             return Ok(());
         }
-        self.counts.turned += u64::from(self.turned);
-        let recorded = demand3::parse(self.opening.len(), &recording.bytes)
+        let edition = self.run.edition;
+        let recorded = demand3::parse(edition, self.opening.len(), &recording.bytes)
             .expect("demand 3 has looked at the recording");
         let above = recorded.lines.iter().flatten().any(|line| line.len() > 16);
-        self.counts.above += u64::from(above);
+        self.counts.complete(edition, self.turned, above);
         Ok(())
     }
 }

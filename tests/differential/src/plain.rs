@@ -26,6 +26,7 @@ const NO_ZONE: PlainLocal = PlainLocal {
 /// A struct with 0 everywhere.
 pub const ZEROS: PlainRun = PlainRun {
     count: 0,
+    edition: 0,
     records: 0,
     zones: [NO_ZONE; 8],
     opening: [0; 8],
@@ -42,6 +43,11 @@ pub fn place(a: usize, b: usize) -> usize {
 /// Narrows a number of the second implementation, whose answers fit where the run was sound.
 fn word(number: u32) -> u16 {
     u16::try_from(number).expect("a number of an accepted answer fits 16 bits")
+}
+
+/// The same for a zone number, a zone count or an edition.
+fn byte(number: u32) -> u8 {
+    u8::try_from(number).expect("a number of an accepted answer fits 8 bits")
 }
 
 fn mark_of(kind: u8, saved: PlainSaved) -> Option<Mark> {
@@ -99,6 +105,7 @@ pub fn zone_of(p: &PlainZone) -> Option<Zone> {
         saved: p.saved,
     };
     Some(Zone {
+        edition: u32::from(p.edition),
         number: u32::from(p.number),
         count: u32::from(p.count),
         body: local_of(&local)?,
@@ -108,13 +115,14 @@ pub fn zone_of(p: &PlainZone) -> Option<Zone> {
 pub fn plain_zone(zone: &Zone) -> PlainZone {
     let local = plain_local(&zone.body);
     PlainZone {
-        number: u8::try_from(zone.number).expect("a zone number fits 8 bits"),
-        count: u8::try_from(zone.count).expect("a zone count fits 8 bits"),
+        number: byte(zone.number),
+        count: byte(zone.count),
         deps: local.deps,
         mark: local.mark,
         stock: local.stock,
         events: local.events,
         saved: local.saved,
+        edition: byte(zone.edition),
     }
 }
 
@@ -157,6 +165,7 @@ pub fn run_of(p: &PlainRun) -> Option<Run> {
         return None;
     }
     let mut run = Run {
+        edition: u32::from(p.edition),
         count: u32::from(p.count),
         zones: from_fn(|index| Body::opened(index as u32 + 1, 0)),
         lines: Default::default(),
@@ -178,7 +187,8 @@ pub fn run_of(p: &PlainRun) -> Option<Run> {
 /// came to `run`. A receipt moves all places of its line down and clears the last.
 pub fn after(p: &PlainRun, run: &Run, popped: Option<(usize, usize)>) -> PlainRun {
     let mut next = *p;
-    next.count = u8::try_from(run.count).expect("a zone count fits 8 bits");
+    next.count = byte(run.count);
+    next.edition = byte(run.edition);
     next.records = run.records.len() as u16;
     next.zones = from_fn(|index| plain_local(&run.zones[index]));
     next.opening = run.opening;

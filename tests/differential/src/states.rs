@@ -9,11 +9,21 @@ use crate::plain::{self, place};
 use crate::text;
 use second::generate::{accepted, SHAPES};
 use second::journal;
-use second::random::Random;
+use second::random::{edition, Random};
 use second::site::{Call, PLACES};
 
 /// How many states are made of one reachable run, whose making takes long.
 const STATES: usize = 8;
+
+/// A sound state, with every byte as its edition.
+pub fn every(counts: &mut Counts, random: &mut Random) -> Result<(), Failure> {
+    for edition in 0..=255 {
+        let mut p = sound(random);
+        p.edition = edition;
+        check(counts, random, &p)?;
+    }
+    Ok(())
+}
 
 pub fn trial(counts: &mut Counts, random: &mut Random, index: usize) -> Result<(), Failure> {
     let reachable = reachable(random, index);
@@ -41,7 +51,8 @@ fn reachable(random: &mut Random, index: usize) -> PlainRun {
         13 | 14 => 0,
         kind => kind,
     };
-    let bytes = accepted(random, kind);
+    let edition = edition(random);
+    let bytes = accepted(random, edition, kind);
     plain::plain_run(&journal::read(&bytes).run)
 }
 
@@ -129,6 +140,7 @@ fn any_zone(random: &mut Random) -> PlainLocal {
 fn garbage(random: &mut Random) -> PlainRun {
     let mut p = plain::ZEROS;
     p.count = byte(random);
+    p.edition = byte(random);
     p.records = word(random);
     p.zones = std::array::from_fn(|_| any_zone(random));
     p.opening = std::array::from_fn(|_| word(random));
@@ -142,6 +154,7 @@ fn garbage(random: &mut Random) -> PlainRun {
 /// behind the last item of each line and behind the last record.
 fn sound(random: &mut Random) -> PlainRun {
     let mut p = garbage(random);
+    p.edition = edition(random) as u8;
     p.count = random.within(2, 8) as u8;
     p.records = match random.below(8) {
         0 => [0, 1][random.below(2)],
@@ -176,12 +189,17 @@ fn sound(random: &mut Random) -> PlainRun {
     p
 }
 
-/// An item that is sound on a site: at most 60 cars, so that full lines keep within the sum.
+/// An item that is sound on a site: at most 60 cars, so that full lines keep within the sum, and
+/// quite often 0.
 fn item(random: &mut Random, count: u8) -> u16 {
+    let cars = match random.below(5) {
+        0 => 0,
+        _ => random.within(0, 60) as u16,
+    };
     match random.below(4) {
         0 => 512 + u16::from(byte(random) & everybody(count)),
-        1 => 256 + random.within(0, 60) as u16,
-        _ => random.within(0, 60) as u16,
+        1 => 256 + cars,
+        _ => cars,
     }
 }
 
@@ -235,7 +253,7 @@ fn to_the_brim(random: &mut Random, p: &mut PlainRun) {
 
 /// Damages one field of a run.
 fn damage(random: &mut Random, p: &mut PlainRun) {
-    match random.below(20) {
+    match random.below(21) {
         0 => p.count = [0, 1, 2, 3, 7, 8, 9, byte(random)][random.below(8)],
         1 => p.records = [0, 1, 999, 1_000, 1_001, word(random)][random.below(6)],
         2 => p.records = p.records.wrapping_add([1, 65_535][random.below(2)]),
@@ -244,6 +262,7 @@ fn damage(random: &mut Random, p: &mut PlainRun) {
         5 => to_the_brim(random, p),
         6..=12 => damage_zone(random, p),
         13..=17 => damage_line(random, p),
+        18 => p.edition = [0, 1, 2, 3, 7, byte(random)][random.below(6)],
         _ => damage_journal(random, p),
     }
 }

@@ -28,7 +28,10 @@ pub fn bytes(bytes: &[u8]) -> String {
 
 /// Every field of a run; of the lines and the journal, the places that do not hold 0.
 pub fn run(run: &PlainRun) -> String {
-    let mut lines = format!("  count {}, records {}\n", run.count, run.records);
+    let mut lines = format!(
+        "  edition {}, count {}, records {}\n",
+        run.edition, run.count, run.records
+    );
     for (index, zone) in run.zones.iter().enumerate() {
         lines += &format!("  zones[{index}] {zone:?}\n");
     }

@@ -1,11 +1,11 @@
 //! The zone part: zones with any values, and lists of calls on one zone.
 
 use crate::compare::Answer;
-use crate::count::{Counts, Entry, Failure, Found};
+use crate::count::{Check, Counts, Entry, Failure, Found};
 use crate::expect::number;
 use crate::ffi::{self, PlainOpening, PlainSaved, PlainStep, PlainZone};
 use crate::plain;
-use second::random::Random;
+use second::random::{any_edition, edition, Random};
 use second::zone::{self, Zone};
 
 /// A step of the zone part with its arguments.
@@ -74,15 +74,22 @@ impl Step {
 }
 
 /// Compares an opening and gives its zone.
-fn open(counts: &mut Counts, count: u8, own: u8, stock: u16) -> Result<PlainZone, Failure> {
-    let (refusal, zone) = Zone::open(u32::from(own), u32::from(count), stock);
+fn open(
+    counts: &mut Counts,
+    edition: u8,
+    count: u8,
+    own: u8,
+    stock: u16,
+) -> Result<PlainZone, Failure> {
+    let named = u32::from(edition);
+    let (refusal, zone) = Zone::open(named, u32::from(own), u32::from(count), stock);
     let expected = PlainOpening {
         zone: plain::plain_zone(&zone),
         refusal: number(refusal),
     };
-    let proved = ffi::cut_zone_open(count, own, stock);
-    let compared = counts.same(Entry::ZoneOpen, &expected, &proved);
-    let call = || format!("cut_zone_open({count}, {own}, {stock})");
+    let proved = ffi::cut_zone_open(edition, count, own, stock);
+    let compared = counts.same(Entry::ZoneOpen, named, &expected, &proved);
+    let call = || format!("cut_zone_open({edition}, {count}, {own}, {stock})");
     compared.map_err(|found| Failure::new(String::new(), call(), found))?;
     Ok(proved.zone)
 }
@@ -90,12 +97,22 @@ fn open(counts: &mut Counts, count: u8, own: u8, stock: u16) -> Result<PlainZone
 /// Compares a step and gives the zone of its answer.
 fn step(counts: &mut Counts, p: PlainZone, step: Step) -> Result<PlainZone, Found> {
     let proved = step.proved(p);
-    counts.same(step.entry(), &step.expected(p), &proved)?;
+    let edition = u32::from(p.edition);
+    counts.same(step.entry(), edition, &step.expected(p), &proved)?;
+    if let (Step::Receive { cars: 0, flag, .. }, 0) = (step, proved.refusal) {
+        counts.check(Check {
+            edition,
+            alone: true,
+            flag: flag != 0,
+            marked: p.mark != 0,
+        });
+    }
     sets(counts, proved.to)?;
     Ok(proved.zone)
 }
 
-/// Compares the number of a set's zones and its lowest zone, which need no second implementation.
+/// Compares the number of a set's zones and its lowest zone, which need no second implementation
+/// and have no edition.
 fn sets(counts: &mut Counts, set: u8) -> Result<(), Found> {
     let zones: Vec<u32> = (1..=8)
         .filter(|zone| set & zone::only(*zone) != 0)
@@ -113,7 +130,7 @@ fn sets(counts: &mut Counts, set: u8) -> Result<(), Found> {
 }
 
 fn same<A: Answer>(counts: &mut Counts, entry: Entry, expected: A, proved: A) -> Result<(), Found> {
-    counts.same(entry, &expected, &proved)
+    counts.same(entry, 0, &expected, &proved)
 }
 
 fn byte(random: &mut Random) -> u8 {
@@ -171,6 +188,15 @@ fn any_zone(random: &mut Random) -> PlainZone {
             stock: random.within(0, 65_535) as u16,
             events: random.within(0, 65_535) as u16,
         },
+        edition: any_edition(random),
+    }
+}
+
+/// Any number of cars, quite often 0.
+fn cars(random: &mut Random) -> u8 {
+    match random.below(5) {
+        0 => 0,
+        _ => byte(random),
     }
 }
 
@@ -188,11 +214,11 @@ fn any_step(random: &mut Random, p: &PlainZone) -> Step {
     match random.below(8) {
         0..=2 => Step::Send {
             to: other(random, p),
-            cars: byte(random),
+            cars: cars(random),
         },
         3..=5 => Step::Receive {
             from: other(random, p),
-            cars: byte(random),
+            cars: cars(random),
             flag: [0, 1, byte(random)][random.below(3)],
         },
         6 => Step::Request {
@@ -216,7 +242,8 @@ fn single(counts: &mut Counts, p: PlainZone, made: Step) -> Result<(), Failure> 
 fn list(counts: &mut Counts, random: &mut Random, length: usize) -> Result<(), Failure> {
     let count = random.within(2, 8) as u8;
     let own = random.within(1, u32::from(count)) as u8;
-    let opened = open(counts, count, own, edged(random, 65_535))?;
+    let edition = edition(random) as u8;
+    let opened = open(counts, edition, count, own, edged(random, 65_535))?;
     let (mut p, mut steps) = (opened, Vec::new());
     for _ in 0..length {
         let made = any_step(random, &p);
@@ -236,7 +263,8 @@ pub fn trial(counts: &mut Counts, random: &mut Random, index: usize) -> Result<(
         let p = any_zone(random);
         single(counts, p, any_step(random, &p))?;
     }
-    open(counts, near(random), near(random), edged(random, 65_535))?;
+    let (edition, stock) = (any_edition(random), edged(random, 65_535));
+    open(counts, edition, near(random), near(random), stock)?;
     let length = match index % 100 {
         0 => 2_500,
         _ => 40,
@@ -244,22 +272,29 @@ pub fn trial(counts: &mut Counts, random: &mut Random, index: usize) -> Result<(
     list(counts, random, length)
 }
 
-/// Every count with every number, every set, and every mark kind with every flag byte.
+/// Every count with every number, every edition with every count and with every number, every set,
+/// and every mark kind and every edition with every flag byte.
 pub fn every(counts: &mut Counts, random: &mut Random) -> Result<(), Failure> {
     for first in 0..=255 {
         let counted = sets(counts, first);
         counted.map_err(|found| Failure::new(String::new(), format!("the set {first}"), found))?;
         for second in 0..=255 {
-            open(counts, first, second, edged(random, 65_535))?;
-            let mut p = any_zone(random);
+            let stock = edged(random, 65_535);
+            open(counts, any_edition(random), first, second, stock)?;
+            open(counts, first, second, near(random), stock)?;
+            open(counts, first, near(random), second, stock)?;
+            let (mut p, mut q) = (any_zone(random), any_zone(random));
             p.mark = first;
-            let made = Step::Receive {
-                from: other(random, &p),
-                cars: byte(random),
-                flag: second,
-            };
-            single(counts, p, made)?;
-            single(counts, p, any_step(random, &p))?;
+            q.edition = first;
+            for p in [p, q] {
+                let made = Step::Receive {
+                    from: other(random, &p),
+                    cars: cars(random),
+                    flag: second,
+                };
+                single(counts, p, made)?;
+                single(counts, p, any_step(random, &p))?;
+            }
         }
     }
     Ok(())

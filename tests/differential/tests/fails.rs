@@ -1,7 +1,10 @@
 //! The comparison can fail: every kind of wrong answer is reported, and so is a missed floor.
 
 use differential::compare::{Answer, Output};
-use differential::count::{Counts, Entry, ENTRIES, LEAST_ABOVE, LEAST_ANSWERS, LEAST_TURNED};
+use differential::count::{
+    Check, Counts, Entry, CHECKS, ENTRIES, HEADINGS, LEAST_ABOVE, LEAST_ANSWERS, LEAST_CHECKS,
+    LEAST_TURNED,
+};
 use differential::expect::{self, Made};
 use differential::ffi::{self, PlainAnswer, PlainReading, PlainRun, PlainStep};
 use differential::pair;
@@ -17,7 +20,7 @@ const SEND: Call = Call::HandOver {
 
 /// A run of three zones with 10, 20 and 30 cars, as the proved code opens it.
 fn opened() -> PlainRun {
-    let answer = ffi::cut_site_open(3, &[10, 20, 30]);
+    let answer = ffi::cut_site_open(2, 3, &[10, 20, 30]);
     assert_eq!(answer.refusal, 0);
     answer.run
 }
@@ -50,6 +53,7 @@ fn a_changed_field_of_the_site_is_found() {
     let right = sent();
     let changed = |change: fn(&mut PlainRun)| field(&right, |answer| change(&mut answer.run));
     assert_eq!(changed(|run| run.count = 4), "run.count");
+    assert_eq!(changed(|run| run.edition = 1), "run.edition");
     assert_eq!(changed(|run| run.records = 0), "run.records");
     assert_eq!(changed(|run| run.zones[0].stock += 1), "run.zones[0].stock");
     assert_eq!(
@@ -126,8 +130,10 @@ fn a_wrong_answer_of_a_writer_is_found() {
 
 #[test]
 fn a_wrong_answer_of_a_zone_is_found() {
-    let opened = ffi::cut_zone_open(3, 1, 10);
+    let opened = ffi::cut_zone_open(2, 3, 1, 10);
     assert_eq!(field(&opened, |answer| answer.zone.stock = 9), "zone.stock");
+    let edition = field(&opened, |answer| answer.zone.edition = 1);
+    assert_eq!(edition, "zone.edition");
     assert_eq!(field(&opened, |answer| answer.refusal = 2), "refusal");
     let heard = ffi::cut_zone_receive(opened.zone, 2, 1, 0);
     let right = ffi::cut_zone_start(heard.zone);
@@ -147,11 +153,11 @@ fn a_call_against_a_wrong_expectation_fails() {
     let run = opened();
     let mut expected = expect::answer(&run, SEND);
     assert!(pair::call(&mut counts, &run, SEND, &expected).is_ok());
-    assert_eq!(counts.times[Entry::SiteSend as usize][0], 1);
+    assert_eq!(counts.times[1][Entry::SiteSend as usize][0], 1);
     expected.run.zones[3].stock = 1;
     let found = pair::call(&mut counts, &run, SEND, &expected).expect_err("a stock off the site");
     assert_eq!(found.difference.field, "run.zones[3].stock");
-    assert_eq!(counts.times[Entry::SiteSend as usize][0], 1);
+    assert_eq!(counts.times[1][Entry::SiteSend as usize][0], 1);
 }
 
 /// A number that a call cannot give is a failure even where both give it.
@@ -162,35 +168,69 @@ fn a_number_outside_the_list_of_a_call_is_found() {
         refusal: 20,
         run: opened(),
     };
-    let found = counts.same(Entry::SiteReceive, &answer, &answer);
+    let found = counts.same(Entry::SiteReceive, 2, &answer, &answer);
     let difference = found
         .expect_err("the site engine never gives 20")
         .difference;
     assert_eq!(difference.proved, "20");
-    assert_eq!(counts.times, Counts::default().times);
+    // Without a known edition a call gives 1 alone.
+    let answer = PlainAnswer {
+        refusal: 5,
+        run: opened(),
+    };
+    assert!(counts.same(Entry::SiteReceive, 2, &answer, &answer).is_ok());
+    assert!(counts
+        .same(Entry::SiteReceive, 3, &answer, &answer)
+        .is_err());
+    assert_eq!(counts.times[1][Entry::SiteReceive as usize][5], 1);
+    assert_eq!(counts.times[2], Counts::default().times[2]);
 }
 
 #[test]
 fn a_missed_floor_is_reported() {
-    let numbers: usize = ENTRIES.iter().map(|(_, numbers)| numbers.len()).sum();
-    assert_eq!(Counts::default().missed().len(), numbers + 2);
-    let mut counts = Counts {
-        times: [[LEAST_ANSWERS; 21]; ENTRIES.len()],
-        turned: LEAST_TURNED,
-        above: LEAST_ABOVE,
+    let known: usize = ENTRIES.iter().map(|(_, known, _)| known.len()).sum();
+    let other: usize = ENTRIES.iter().map(|(_, _, other)| other.len()).sum();
+    let missed = Counts::default().missed().len();
+    assert_eq!(missed, 2 * known + other + 2 * (CHECKS + 2));
+    let enough = Counts {
+        times: [[[LEAST_ANSWERS; 21]; ENTRIES.len()]; HEADINGS.len()],
+        checks: [[LEAST_CHECKS; CHECKS]; 2],
+        turned: [LEAST_TURNED; 2],
+        above: [LEAST_ABOVE; 2],
         comparisons: 0,
     };
-    assert_eq!(counts.missed(), Vec::<String>::new());
-    counts.times[Entry::SiteStart as usize][10] -= 1;
-    let missed = counts.missed();
-    assert_eq!(missed.len(), 1);
-    assert!(missed[0].contains("cut_site_start answering 10: 99 times"));
-    counts.times[Entry::SiteStart as usize][10] += 1;
-    counts.turned -= 1;
-    assert!(counts.missed()[0].contains("turned firm: 999 times"));
-    counts.turned += 1;
-    counts.above -= 1;
-    assert!(counts.missed()[0].contains("above 16: 99 times"));
+    assert_eq!(enough.missed(), Vec::<String>::new());
+    let missed = |change: fn(&mut Counts)| {
+        let mut counts = enough.clone();
+        change(&mut counts);
+        let missed = counts.missed();
+        assert_eq!(missed.len(), 1);
+        missed[0].clone()
+    };
+    let start = missed(|counts| counts.times[0][Entry::SiteStart as usize][10] -= 1);
+    assert!(start.contains("cut_site_start answering 10, edition 1: 99 times"));
+    let open = missed(|counts| counts.times[2][Entry::ZoneOpen as usize][15] -= 1);
+    assert!(open.contains("cut_zone_open answering 15, another or no edition: 99 times"));
+    assert!(missed(|counts| counts.turned[1] -= 1).contains("turned firm, edition 2: 999 times"));
+    assert!(missed(|counts| counts.above[0] -= 1).contains("above 16, edition 1: 99 times"));
+    let check = missed(|counts| counts.checks[1][6] -= 1);
+    assert!(check.contains("bit 1 taken by an unmarked zone, zone part, edition 2: 99 times"));
+}
+
+/// A hand-over of 0 cars is counted by its edition, its bit and the part and mark of its receiver.
+#[test]
+fn a_taken_check_is_counted() {
+    let mut counts = Counts::default();
+    for edition in [1, 2, 2] {
+        counts.check(Check {
+            edition,
+            alone: true,
+            flag: true,
+            marked: false,
+        });
+    }
+    assert_eq!((counts.checks[0][6], counts.checks[1][6]), (1, 2));
+    assert_eq!(counts.checks.iter().flatten().sum::<u64>(), 3);
 }
 
 /// Which states the second implementation cannot hold, and what is looked at nowhere.
@@ -208,6 +248,9 @@ fn unused_storage_is_judged_by_the_contract() {
     assert_eq!(refusal(|run| run.zones[7].stock = 65_535), 0);
     assert_eq!(refusal(|run| run.records = 1_001), 1);
     assert_eq!(refusal(|run| run.count = 9), 1);
+    assert_eq!(refusal(|run| run.edition = 0), 1);
+    assert_eq!(refusal(|run| run.edition = 3), 1);
+    assert_eq!(refusal(|run| run.edition = 1), 0);
     assert_eq!(refusal(|run| run.lens[place(0, 1)] = 17), 1);
     assert_eq!(refusal(|run| run.lens[place(0, 1)] = 16), 8);
     assert_eq!(refusal(|run| run.lens[place(0, 0)] = 17), 0);

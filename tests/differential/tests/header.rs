@@ -22,11 +22,12 @@ fn add_zone(sum: u64, zone: &PlainZone) -> u64 {
     let sum = [zone.number, zone.count, zone.deps, zone.mark]
         .into_iter()
         .fold(sum, add);
-    add_saved(add(add(sum, zone.stock), zone.events), zone.saved)
+    let sum = add_saved(add(add(sum, zone.stock), zone.events), zone.saved);
+    add(sum, zone.edition)
 }
 
 fn add_head(sum: u64, run: &PlainRun) -> u64 {
-    let mut sum = add(add(sum, run.count), run.records);
+    let mut sum = add(add(add(sum, run.count), run.edition), run.records);
     for zone in &run.zones {
         sum = add(add(sum, zone.stock), zone.events);
         sum = add_saved(add(add(sum, zone.deps), zone.mark), zone.saved);
@@ -64,6 +65,7 @@ fn zone(random: &mut Random) -> PlainZone {
         stock: word(random),
         events: word(random),
         saved: saved(random),
+        edition: byte(random),
     }
 }
 
@@ -71,6 +73,7 @@ fn zone(random: &mut Random) -> PlainZone {
 fn run(random: &mut Random) -> PlainRun {
     let mut run = ZEROS;
     run.count = byte(random);
+    run.edition = byte(random);
     run.records = word(random);
     for zone in &mut run.zones {
         zone.stock = word(random);
@@ -135,8 +138,11 @@ fn the_site_has_the_same_fields() {
 
 #[test]
 fn a_changed_field_changes_the_sum() {
-    let mut answer = ffi::cut_site_open(3, &[10, 20, 30]);
+    let mut answer = ffi::cut_site_open(1, 3, &[10, 20, 30]);
     let before = answer.sum();
     answer.run.zones[7].saved.events += 1;
+    assert_ne!(answer.sum(), before);
+    let mut answer = ffi::cut_site_open(1, 3, &[10, 20, 30]);
+    answer.run.edition += 1;
     assert_ne!(answer.sum(), before);
 }

@@ -1,6 +1,6 @@
 //! A small random number generator and lists of calls drawn with it.
 
-use crate::edition::fewest;
+use crate::edition::{fewest, EDITIONS};
 use crate::site::{is_request, Call, Run};
 
 /// The xorshift generator of 64 bits, with a multiplied answer.
@@ -32,6 +32,20 @@ impl Random {
     /// True in so many of 100 draws.
     pub fn chance(&mut self, percent: u32) -> bool {
         self.within(1, 100) <= percent
+    }
+}
+
+/// A defined edition.
+pub fn edition(random: &mut Random) -> u32 {
+    EDITIONS[random.below(EDITIONS.len())]
+}
+
+/// An edition that is mostly defined, and else near the defined ones or any byte.
+pub fn any_edition(random: &mut Random) -> u8 {
+    match random.below(12) {
+        0 => random.within(0, 255) as u8,
+        1 => random.within(0, 7) as u8,
+        _ => edition(random) as u8,
     }
 }
 

@@ -5,14 +5,14 @@ use second::edition::EDITIONS;
 use second::generate::{bytes_of, edition_of, journals, traits, Traits};
 use second::journal;
 use second::print;
-use second::random::{drive, finish, stocks, Random};
+use second::random::{drive, edition, finish, stocks, Random};
 use second::recording;
 use second::site::{Call, Run};
 use std::collections::BTreeMap;
 
 /// A run of either edition after a random list of calls, with the opening and the list.
 fn random_run(random: &mut Random, length: usize) -> (Vec<u16>, Vec<(Call, u32)>, Run) {
-    let edition = EDITIONS[random.below(2)];
+    let edition = edition(random);
     let zones = random.within(2, 8);
     let opening = stocks(random, zones);
     let (refusal, mut run) = Run::open(edition, zones, &opening);

@@ -6,8 +6,8 @@
 //! call writes what an unmarked zone has saved as 0 (there these values are not compared).
 
 use crate::proved::{self, Numbers, Told};
-use second::generate::{accepted, damaged, DAMAGES, SHAPES};
-use second::random::{drive, stocks, Random};
+use second::generate::{self, accepted, journal_of, SHAPES};
+use second::random::{any_edition, drive, edition, stocks, Random};
 use second::site::Call;
 use speed::site::{self, Local, Run, Written, MOST_RECORDS, PLACES, RECORDING_BYTES};
 use speed::zone::{Answer, Saved, Zone};
@@ -20,7 +20,7 @@ type Outcome<T> = Result<T, String>;
 
 /// The calls with the numbers that they answer.
 const CALLS: [(&str, &[u8]); 13] = [
-    ("open", &[0, 2, 3, 4]),
+    ("open", &[0, 2, 3, 4, 15]),
     ("send", &[0, 1, 5, 6, 7, 8]),
     ("receive", &[0, 1, 5, 6, 9, 10]),
     ("start", &[0, 1, 5, 6, 10, 11]),
@@ -28,7 +28,7 @@ const CALLS: [(&str, &[u8]); 13] = [
     ("write", &[0, 1, 14]),
     ("read", &[0, 4, 15, 16, 17, 18, 19]),
     ("read-record", &[0, 4, 12, 13, 14, 15, 16, 17, 18, 19]),
-    ("zone-open", &[0, 2, 5]),
+    ("zone-open", &[0, 2, 5, 15]),
     ("zone-send", &[0, 1, 5, 6, 7]),
     ("zone-receive", &[0, 1, 5, 6, 20]),
     ("zone-request", &[0, 1, 5]),
@@ -168,6 +168,7 @@ fn any_zone(random: &mut Random) -> Zone {
             stock: word(random),
             events: word(random),
         },
+        edition: any_edition(random),
     };
     if random.chance(90) {
         zone.count = random.within(2, 8) as u8;
@@ -193,6 +194,7 @@ fn seen(mut zone: Zone, refusal: u8) -> Zone {
 
 fn zones(counts: &mut Counts, random: &mut Random, _: usize) -> Outcome<()> {
     let zone = any_zone(random);
+    let cars = if random.chance(20) { 0 } else { byte(random) };
     let (a, b, flag) = (near(random), byte(random), byte(random) % 3);
     let set = if random.chance(50) { b } else { b & zone.deps };
     type Proved<'a> = &'a dyn Fn(&mut Zone, &mut Told) -> u8;
@@ -200,13 +202,13 @@ fn zones(counts: &mut Counts, random: &mut Random, _: usize) -> Outcome<()> {
     let steps: [(&str, Proved, Peer); 4] = [
         (
             "zone-send",
-            &|zone, told| proved::zone_send(zone, told, a, b),
-            &|zone| zone.send(a, b),
+            &|zone, told| proved::zone_send(zone, told, a, cars),
+            &|zone| zone.send(a, cars),
         ),
         (
             "zone-receive",
-            &|zone, told| proved::zone_receive(zone, told, a, b, flag),
-            &|zone| zone.receive(a, b, flag != 0),
+            &|zone, told| proved::zone_receive(zone, told, a, cars, flag),
+            &|zone| zone.receive(a, cars, flag != 0),
         ),
         (
             "zone-request",
@@ -228,13 +230,13 @@ fn zones(counts: &mut Counts, random: &mut Random, _: usize) -> Outcome<()> {
         counts.same(name, refusal, &theirs, &mine)?;
     }
     let (mut mine, mut theirs) = (zone, zone);
-    let refusal = proved::zone_open(&mut theirs, zone.count, a, zone.stock);
-    let answer = mine.open(zone.count, a, zone.stock);
+    let refusal = proved::zone_open(&mut theirs, zone.edition, zone.count, a, zone.stock);
+    let answer = mine.open(zone.edition, zone.count, a, zone.stock);
     counts.same("zone-open", refusal, &(refusal, theirs), &(answer, mine))
 }
 
 fn openings(counts: &mut Counts, random: &mut Random, _: usize) -> Outcome<()> {
-    let count = near(random);
+    let (edition, count) = (any_edition(random), near(random));
     let length = if random.chance(80) {
         count.min(12)
     } else {
@@ -252,8 +254,8 @@ fn openings(counts: &mut Counts, random: &mut Random, _: usize) -> Outcome<()> {
         }
     }
     let (mut theirs, mut mine) = (garbage(random), garbage(random));
-    let refusal = proved::open_any(&mut theirs, count, &stocks);
-    let answer = mine.open(count, &stocks);
+    let refusal = proved::open_any(&mut theirs, edition, count, &stocks);
+    let answer = mine.open(edition, count, &stocks);
     counts.same("open", refusal, &(refusal, theirs), &(answer, mine))
 }
 
@@ -386,12 +388,12 @@ fn writers(counts: &mut Counts, random: &mut Random, run: &Run) -> Outcome<()> {
 
 /// Random lists of calls from random openings.
 fn lists(counts: &mut Counts, random: &mut Random, index: usize) -> Outcome<()> {
-    let zones = random.within(2, 8);
+    let (edition, zones) = (edition(random), random.within(2, 8));
     let mut run = Run::REFUSED;
-    run.open(zones as u8, &stocks(random, zones));
+    run.open(edition as u8, zones as u8, &stocks(random, zones));
     let length = if index % 100 == 0 { 2_500 } else { 80 };
     let mut outcome = Ok(());
-    drive(random, zones, length, &mut |made| {
+    drive(random, edition, zones, length, &mut |made| {
         if outcome.is_err() {
             return 0;
         }
@@ -414,6 +416,7 @@ fn lists(counts: &mut Counts, random: &mut Random, index: usize) -> Outcome<()> 
 fn garbage(random: &mut Random) -> Run {
     Run {
         count: byte(random),
+        edition: byte(random),
         records: word(random),
         zones: from_fn(|_| any_local(random)),
         opening: from_fn(|_| word(random)),
@@ -448,16 +451,21 @@ fn lines(run: &Run) -> Vec<usize> {
 
 /// An item that is sound on most sites.
 fn item(random: &mut Random, count: u8) -> u16 {
+    let cars = match random.below(5) {
+        0 => 0,
+        _ => random.within(0, 60) as u16,
+    };
     match random.below(4) {
         0 => 512 + u16::from(byte(random) & ((1_u32 << count.min(8)) - 1) as u8),
-        1 => 256 + random.within(0, 60) as u16,
-        _ => random.within(0, 60) as u16,
+        1 => 256 + cars,
+        _ => cars,
     }
 }
 
 /// A sound run that hardly any calls could make, with any values where nobody looks.
 fn sound(random: &mut Random) -> Run {
     let mut run = garbage(random);
+    run.edition = edition(random) as u8;
     run.count = random.within(2, 8) as u8;
     run.records = match random.below(6) {
         0 => 0,
@@ -519,7 +527,7 @@ fn damage(random: &mut Random, run: &mut Run) {
     let place = random.below(usize::from(run.lens[line]).clamp(1, PLACES));
     let one = [1, 65_535][random.below(2)];
     let zone = &mut run.zones[random.below(8)];
-    match random.below(23) {
+    match random.below(24) {
         0 => run.count = near(random),
         1 => run.records = edged(random, 1_000),
         2 => run.records = records.wrapping_add(one),
@@ -550,6 +558,7 @@ fn damage(random: &mut Random, run: &mut Run) {
             run.opening[index] = run.opening[index].wrapping_add(more);
             run.zones[index].stock = run.zones[index].stock.wrapping_add(more);
         }
+        22 => run.edition = any_edition(random),
         _ => run.journal.swap(record, random.below(MOST_RECORDS)),
     }
 }
@@ -561,7 +570,11 @@ fn likely(random: &mut Random, run: &Run, step: usize) -> Call {
     if random.chance(5) {
         (from, to) = (near(random).into(), near(random).into());
     }
-    let cars = if random.chance(50) { 1 } else { byte(random) };
+    let cars = match random.below(8) {
+        0 => 0,
+        1..=3 => 1,
+        _ => byte(random),
+    };
     match step % 3 {
         0 => Call::HandOver { from, to, cars },
         1 => Call::Receipt { from, to },
@@ -597,7 +610,8 @@ fn states(counts: &mut Counts, random: &mut Random, index: usize) -> Outcome<()>
         return check(counts, random, &run);
     }
     let mut reached = Run::REFUSED;
-    reached.read(&accepted(random, index / 4 % SHAPES));
+    let edition = edition(random);
+    reached.read(&accepted(random, edition, index / 4 % SHAPES));
     check(counts, random, &reached)?;
     for _ in 0..8 {
         let mut run = reached;
@@ -627,11 +641,8 @@ fn spoil(random: &mut Random, bytes: &mut Vec<u8>) {
 }
 
 fn journals(counts: &mut Counts, random: &mut Random, index: usize) -> Outcome<()> {
-    let kind = index % (DAMAGES + SHAPES);
-    let mut bytes = match kind.checked_sub(DAMAGES) {
-        Some(kind) => accepted(random, kind),
-        None => damaged(random, kind),
-    };
+    let edition = edition(random);
+    let mut bytes = journal_of(random, edition, index % generate::KINDS);
     for _ in 0..random.within(2, 5) {
         let (mut theirs, mut mine) = (garbage(random), garbage(random));
         let answer = proved::read(&mut theirs, &bytes);

@@ -11,6 +11,22 @@ mod replay;
 pub mod site;
 pub mod zone;
 
+/// The edition of a run or zone whose opening was refused, and that in which every hand-over is
+/// traffic. From the next one on, one of 0 cars is a line check.
+const FIRST_EDITION: u8 = 1;
+
+/// Questions 1 and 15, for the edition: it is 1 or 2.
+#[inline]
+fn is_edition(edition: u8) -> bool {
+    edition.wrapping_sub(FIRST_EDITION) < 2
+}
+
+/// The fewest cars of a hand-over that is traffic, in a sound edition.
+#[inline]
+fn fewest(edition: u8) -> u16 {
+    u16::from(edition - FIRST_EDITION)
+}
+
 /// The set of all zones of a site of at most 8.
 #[inline]
 fn everybody(count: u8) -> u8 {

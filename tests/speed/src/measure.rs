@@ -54,6 +54,7 @@ impl Scene {
                 stock: 100,
                 events: 7,
                 saved: Saved::default(),
+                edition: run.edition,
             },
             zone_work: Zone::default(),
             told: Told::default(),
@@ -146,8 +147,8 @@ const OPEN: Call = Call {
     name: "open",
     ops: [
         |s| idle::run(&mut s.work, s.run.count, 0, 0),
-        |s| proved::open(&mut s.work, s.run.count, stocks(&s.run)),
-        |s| s.work.open(s.run.count, stocks(&s.run)),
+        |s| proved::open(&mut s.work, s.run.edition, s.run.count, stocks(&s.run)),
+        |s| s.work.open(s.run.edition, s.run.count, stocks(&s.run)),
     ],
 };
 
@@ -197,6 +198,16 @@ const RECEIVE_REQUEST: Call = Call {
     ops: RECEIVE.ops,
 };
 
+const SEND_CHECK: Call = Call {
+    name: "send a check",
+    ops: SEND.ops,
+};
+
+const RECEIVE_CHECK: Call = Call {
+    name: "receive a check",
+    ops: RECEIVE.ops,
+};
+
 const START: Call = Call {
     name: "start",
     ops: [
@@ -219,8 +230,8 @@ const ZONE_OPEN: Call = Call {
     name: "zone open",
     ops: [
         |s| idle::zone(&mut s.zone_work, &mut s.told, s.zone.count, s.first, 100),
-        |s| proved::zone_open(&mut s.zone_work, s.zone.count, s.first, 100),
-        |s| s.zone_work.open(s.zone.count, s.first, 100),
+        |s| proved::zone_open(&mut s.zone_work, s.zone.edition, s.zone.count, s.first, 100),
+        |s| s.zone_work.open(s.zone.edition, s.zone.count, s.first, 100),
     ],
 };
 
@@ -275,6 +286,30 @@ const STEPS: [Call; 5] = [
     step!("zone start", zone_start, start, 0, 0, 0, (), ()),
 ];
 
+/// Steps on a zone of edition 2.
+const CHECK_STEPS: [Call; 2] = [
+    step!(
+        "zone send a check",
+        zone_send,
+        send,
+        2,
+        0,
+        0,
+        (2, 0),
+        (2, 0)
+    ),
+    step!(
+        "zone receive a check",
+        zone_receive,
+        receive,
+        2,
+        0,
+        1,
+        (2, 0, 1),
+        (2, 0, true)
+    ),
+];
+
 /// A call on a scene with its label: call, lines, zones, records.
 struct Case {
     label: String,
@@ -289,6 +324,13 @@ fn case(call: &Call, lines: &str, run: Run) -> Case {
         ops: call.ops,
         scene: Box::new(Scene::new(run)),
     }
+}
+
+/// A step of the zone part, on a zone of the run's edition.
+fn zone_case(call: &Call, run: Run) -> Case {
+    let mut case = case(call, "-", run);
+    case.label = format!("{}\t-\t8\t0", call.name);
+    case
 }
 
 /// All that is measured. Each case is tried: both must accept it and come to the same.
@@ -317,11 +359,16 @@ fn cases() -> Vec<Case> {
             }
         }
         cases.push(case(&RECEIVE_REQUEST, "empty", scenes::asked(zones)));
+        let mut check = case(&SEND_CHECK, "empty", scenes::checked(zones));
+        check.scene.third = 0;
+        cases.push(check);
+        cases.push(case(&RECEIVE_CHECK, "empty", scenes::checked(zones)));
     }
     for call in [ZONE_OPEN].iter().chain(&STEPS) {
-        let mut case = case(call, "-", scenes::calm(8));
-        case.label = format!("{}\t-\t8\t0", call.name);
-        cases.push(case);
+        cases.push(zone_case(call, scenes::calm(8)));
+    }
+    for call in &CHECK_STEPS {
+        cases.push(zone_case(call, scenes::checked(8)));
     }
     for case in &mut cases {
         try_out(case);

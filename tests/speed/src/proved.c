@@ -2,15 +2,15 @@
  * answer holds is given by field, so that only this file knows the layout of the answers. */
 #include <cut/site.h>
 
-uint8_t proved_open(cut_run *run, uint8_t count, const uint16_t *stocks, size_t n)
+uint8_t proved_open(cut_run *run, uint8_t edition, uint8_t count, const uint16_t *stocks, size_t n)
 {
-    return cut_open(run, count, stocks, n);
+    return cut_open(run, edition, count, stocks, n);
 }
 
 /* The opening itself, which hands back a run when it is refused too. */
-uint8_t proved_open_any(cut_run *run, uint8_t count, const uint16_t *stocks, size_t n)
+uint8_t proved_open_any(cut_run *run, uint8_t edition, uint8_t count, const uint16_t *stocks, size_t n)
 {
-    cut_answer a = cut_site_open(count, stocks, n);
+    cut_answer a = cut_site_open(edition, count, stocks, n);
     *run = a.run;
     return a.refusal;
 }
@@ -68,9 +68,9 @@ uint8_t proved_read_here(const uint8_t *bytes, size_t n)
     return r.refusal;
 }
 
-uint8_t proved_zone_open(cut_zone *zone, uint8_t count, uint8_t number, uint16_t stock)
+uint8_t proved_zone_open(cut_zone *zone, uint8_t edition, uint8_t count, uint8_t number, uint16_t stock)
 {
-    cut_opening o = cut_zone_open(count, number, stock);
+    cut_opening o = cut_zone_open(edition, count, number, stock);
     *zone = o.zone;
     return o.refusal;
 }
@@ -130,6 +130,7 @@ uint8_t idle_zone(cut_zone *zone, step_told *told, uint8_t first, uint8_t second
 const size_t proved_layout[] = {
     sizeof(cut_run),
     offsetof(cut_run, head.count),
+    offsetof(cut_run, head.edition),
     offsetof(cut_run, head.records),
     offsetof(cut_run, head.zones),
     offsetof(cut_run, head.opening),
@@ -152,4 +153,5 @@ const size_t proved_layout[] = {
     offsetof(cut_zone, events),
     offsetof(cut_zone, saved.stock),
     offsetof(cut_zone, saved.events),
+    offsetof(cut_zone, edition),
 };

@@ -8,9 +8,21 @@ mod raw {
     use super::{Run, Told, Zone};
 
     extern "C" {
-        pub static proved_layout: [usize; 24];
-        pub fn proved_open(run: *mut Run, count: u8, stocks: *const u16, n: usize) -> u8;
-        pub fn proved_open_any(run: *mut Run, count: u8, stocks: *const u16, n: usize) -> u8;
+        pub static proved_layout: [usize; 26];
+        pub fn proved_open(
+            run: *mut Run,
+            edition: u8,
+            count: u8,
+            stocks: *const u16,
+            n: usize,
+        ) -> u8;
+        pub fn proved_open_any(
+            run: *mut Run,
+            edition: u8,
+            count: u8,
+            stocks: *const u16,
+            n: usize,
+        ) -> u8;
         pub fn proved_send(run: *mut Run, from: u8, to: u8, cars: u8) -> u8;
         pub fn proved_receive(run: *mut Run, from: u8, to: u8) -> u8;
         pub fn proved_start(run: *mut Run, zone: u8) -> u8;
@@ -38,7 +50,13 @@ mod raw {
         ) -> u8;
         pub fn proved_read(bytes: *const u8, n: usize, run: *mut Run, position: *mut usize) -> u8;
         pub fn proved_read_here(bytes: *const u8, n: usize) -> u8;
-        pub fn proved_zone_open(zone: *mut Zone, count: u8, number: u8, stock: u16) -> u8;
+        pub fn proved_zone_open(
+            zone: *mut Zone,
+            edition: u8,
+            count: u8,
+            number: u8,
+            stock: u16,
+        ) -> u8;
         pub fn proved_zone_send(zone: *mut Zone, told: *mut Told, to: u8, cars: u8) -> u8;
         pub fn proved_zone_receive(
             zone: *mut Zone,
@@ -88,6 +106,7 @@ pub fn same_layout() -> bool {
     let mine = [
         size_of::<Run>(),
         offset_of!(Run, count),
+        offset_of!(Run, edition),
         offset_of!(Run, records),
         offset_of!(Run, zones),
         offset_of!(Run, opening),
@@ -110,6 +129,7 @@ pub fn same_layout() -> bool {
         offset_of!(Zone, events),
         offset_of!(Zone, saved.stock),
         offset_of!(Zone, saved.events),
+        offset_of!(Zone, edition),
     ];
     mine == unsafe { raw::proved_layout }
 }
@@ -117,13 +137,13 @@ pub fn same_layout() -> bool {
 // Every value of every field may be passed, and each pointer is that of a Rust reference or slice, so
 // the calls are safe.
 
-pub fn open(run: &mut Run, count: u8, stocks: &[u16]) -> u8 {
-    unsafe { raw::proved_open(run, count, stocks.as_ptr(), stocks.len()) }
+pub fn open(run: &mut Run, edition: u8, count: u8, stocks: &[u16]) -> u8 {
+    unsafe { raw::proved_open(run, edition, count, stocks.as_ptr(), stocks.len()) }
 }
 
-/// Opens a site; refused, the run is that of 2 zones with stock 0.
-pub fn open_any(run: &mut Run, count: u8, stocks: &[u16]) -> u8 {
-    unsafe { raw::proved_open_any(run, count, stocks.as_ptr(), stocks.len()) }
+/// Opens a site; refused, the run is that of 2 zones with stock 0 and edition 1.
+pub fn open_any(run: &mut Run, edition: u8, count: u8, stocks: &[u16]) -> u8 {
+    unsafe { raw::proved_open_any(run, edition, count, stocks.as_ptr(), stocks.len()) }
 }
 
 pub fn send(run: &mut Run, from: u8, to: u8, cars: u8) -> u8 {
@@ -207,8 +227,8 @@ pub fn read_here(bytes: &[u8]) -> u8 {
     unsafe { raw::proved_read_here(bytes.as_ptr(), bytes.len()) }
 }
 
-pub fn zone_open(zone: &mut Zone, count: u8, number: u8, stock: u16) -> u8 {
-    unsafe { raw::proved_zone_open(zone, count, number, stock) }
+pub fn zone_open(zone: &mut Zone, edition: u8, count: u8, number: u8, stock: u16) -> u8 {
+    unsafe { raw::proved_zone_open(zone, edition, count, number, stock) }
 }
 
 pub fn zone_send(zone: &mut Zone, told: &mut Told, to: u8, cars: u8) -> u8 {

@@ -8,9 +8,9 @@ fn must(refusal: u8) {
     assert_eq!(refusal, 0, "a call of a scene is accepted");
 }
 
-fn opened(zones: u8, stock: u16) -> Run {
+fn opened(edition: u8, zones: u8, stock: u16) -> Run {
     let mut run = Run::REFUSED;
-    must(run.open(zones, &[stock; 8][..usize::from(zones)]));
+    must(run.open(edition, zones, &[stock; 8][..usize::from(zones)]));
     run
 }
 
@@ -40,7 +40,7 @@ fn take_request(run: &mut Run) -> bool {
 /// its requests: the recorded lines are empty. With few records zone 1 hears nobody and sends no
 /// request.
 pub fn ring(zones: u8, records: usize) -> Run {
-    let mut run = opened(zones, 1_000);
+    let mut run = opened(1, zones, 1_000);
     let is_whole = records >= 3 * usize::from(zones);
     let (round, last) = if is_whole {
         (zones, usize::from(zones))
@@ -65,7 +65,7 @@ pub fn ring(zones: u8, records: usize) -> Run {
 /// records zone 1 hears zone 2 alone and nobody else receives.
 pub fn full(zones: u8, records: usize) -> Run {
     let mut random = Random::new(u64::from(zones) * 10_000 + records as u64);
-    let mut run = opened(zones, 8_000);
+    let mut run = opened(1, zones, 8_000);
     let is_whole = records >= 3 * usize::from(zones) + 4;
     let heard = if is_whole { zones - 1 } else { 1 };
     for from in 2..2 + heard {
@@ -96,19 +96,29 @@ fn fill(random: &mut Random, run: &mut Run, receives: bool) {
     }
 }
 
-/// A run of 99 records with one item on the line from 1 to 2 and empty lines else.
-pub fn calm(zones: u8) -> Run {
-    let mut run = opened(zones, 8_000);
+/// A run of 99 records with one item on the line from 1 to 2, of so many cars, and empty lines else.
+fn one_item(edition: u8, zones: u8, cars: u8) -> Run {
+    let mut run = opened(edition, zones, 8_000);
     for pair in 0..49 {
         hand_over(&mut run, pair % zones + 1, (pair + 1) % zones + 1, 1);
     }
-    must(run.send(1, 2, 3));
+    must(run.send(1, 2, cars));
     run
+}
+
+/// Such a run of edition 1, and the item is traffic.
+pub fn calm(zones: u8) -> Run {
+    one_item(1, zones, 3)
+}
+
+/// Such a run of edition 2, and the item is a line check.
+pub fn checked(zones: u8) -> Run {
+    one_item(2, zones, 0)
 }
 
 /// A run whose lines have 16 items each, those from zone 1 have 8; zone 1 has heard all others.
 pub fn crowded(zones: u8) -> Run {
-    let mut run = opened(zones, 8_000);
+    let mut run = opened(1, zones, 8_000);
     for from in 2..=zones {
         hand_over(&mut run, from, 1, 3);
     }
@@ -124,7 +134,7 @@ pub fn crowded(zones: u8) -> Run {
 
 /// A run in which a request stands first on the line from 1 to 2, and zone 2 sends it on to all others.
 pub fn asked(zones: u8) -> Run {
-    let mut run = opened(zones, 8_000);
+    let mut run = opened(1, zones, 8_000);
     hand_over(&mut run, 2, 1, 3);
     for from in 3..=zones {
         hand_over(&mut run, from, 2, 3);

@@ -1,6 +1,6 @@
 //! The zone part: one zone, lent to every step.
 
-use crate::everybody;
+use crate::{everybody, fewest, is_edition, FIRST_EDITION};
 
 /// The stock and the own events that a mark keeps.
 #[repr(C)]
@@ -22,6 +22,7 @@ pub struct Zone {
     pub stock: u16,
     pub events: u16,
     pub saved: Saved,
+    pub edition: u8,
 }
 
 /// What a step answers beside the zone: the marked bit of a hand-over, the zones to be sent a request
@@ -46,25 +47,28 @@ impl Answer {
 const MOST_EVENTS: u16 = 1_000;
 
 impl Zone {
-    /// Opens a zone; a refused opening gives zone 1 of 2 with stock 0.
+    /// Opens a zone; a refused opening gives zone 1 of 2 with stock 0 and edition 1.
     #[inline(never)]
-    pub fn open(&mut self, count: u8, number: u8, stock: u16) -> u8 {
-        let refusal = if !(2..=8).contains(&count) {
+    pub fn open(&mut self, edition: u8, count: u8, number: u8, stock: u16) -> u8 {
+        let refusal = if !is_edition(edition) {
+            15
+        } else if !(2..=8).contains(&count) {
             2
         } else if number.wrapping_sub(1) >= count {
             5
         } else {
             0
         };
-        let (number, count, stock) = match refusal {
-            0 => (number, count, stock),
-            _ => (1, 2, 0),
+        let (edition, number, count, stock) = match refusal {
+            0 => (edition, number, count, stock),
+            _ => (FIRST_EDITION, 1, 2, 0),
         };
         *self = Zone {
             number,
             count,
             deps: 1 << ((number - 1) % 8),
             stock,
+            edition,
             ..Zone::default()
         };
         refusal
@@ -78,12 +82,19 @@ impl Zone {
             && self.deps & !everybody(self.count) == 0
             && self.events <= MOST_EVENTS
             && self.mark <= 2
+            && is_edition(self.edition)
     }
 
     /// Question 5 for the other zone of a hand-over.
     #[inline(always)]
     fn is_other(&self, zone: u8) -> bool {
         zone.wrapping_sub(1) < self.count && zone != self.number
+    }
+
+    /// Says whether a hand-over is traffic.
+    #[inline(always)]
+    fn is_traffic(&self, cars: u8) -> bool {
+        u16::from(cars) >= fewest(self.edition)
     }
 
     #[inline(always)]
@@ -109,7 +120,7 @@ impl Zone {
             return Answer::refused(7);
         };
         self.stock = stock;
-        self.events += 1;
+        self.events += u16::from(self.is_traffic(cars));
         Answer {
             flag: u8::from(self.mark != 0),
             ..Answer::default()
@@ -130,6 +141,9 @@ impl Zone {
         let Some(stock) = self.stock.checked_add(u16::from(cars)) else {
             return Answer::refused(20);
         };
+        if !self.is_traffic(cars) {
+            return Answer::default();
+        }
         if self.mark == 0 {
             if flag {
                 self.save();

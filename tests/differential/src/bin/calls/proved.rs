@@ -8,7 +8,7 @@ use std::hint::black_box;
 /// The call of a name, on what a journal gives.
 pub fn call(name: &str, bytes: Vec<u8>) -> Option<Once> {
     let run = ffi::cut_journal_read(&bytes).run;
-    let zone = ffi::cut_zone_open(run.count, 1, 100).zone;
+    let zone = ffi::cut_zone_open(run.edition, run.count, 1, 100).zone;
     on_run(name, run)
         .or_else(|| on_zone(name, zone))
         .or_else(|| on_bytes(name, bytes))
@@ -26,7 +26,8 @@ fn changed(run: PlainRun, call: fn(&mut PlainRun) -> u8) -> Once {
 fn on_run(name: &str, run: PlainRun) -> Option<Once> {
     let opened = move || {
         let stocks = &black_box(&run.opening)[..usize::from(run.count)];
-        u32::from(black_box(&ffi::cut_site_open(run.count, stocks)).refusal)
+        let answer = ffi::cut_site_open(run.edition, run.count, stocks);
+        u32::from(black_box(&answer).refusal)
     };
     Some(match name {
         "copy" => changed(run, |_| 0),
@@ -63,7 +64,7 @@ fn on_zone(name: &str, zone: PlainZone) -> Option<Once> {
         Box::new(move || u32::from(black_box(&step(*black_box(&zone))).refusal))
     };
     let opened = move || {
-        let opening = ffi::cut_zone_open(black_box(zone.count), 1, 100);
+        let opening = ffi::cut_zone_open(zone.edition, black_box(zone.count), 1, 100);
         u32::from(black_box(&opening).refusal)
     };
     Some(match name {

@@ -11,7 +11,7 @@ use std::rc::Rc;
 /// The call of a name, on what a journal gives.
 pub fn call(name: &str, bytes: Vec<u8>) -> Option<Once> {
     let run = Rc::new(journal::read(&bytes).run);
-    let zone = Zone::open(1, run.count, 100).1;
+    let zone = Zone::open(run.edition, 1, run.count, 100).1;
     on_run(name, run)
         .or_else(|| on_zone(name, zone))
         .or_else(|| on_bytes(name, bytes))
@@ -32,7 +32,7 @@ fn on_run(name: &str, run: Rc<Run>) -> Option<Once> {
         "copy" => changed(run, None),
         "open" => Box::new(move || {
             let stocks = &black_box(&run.opening)[..run.size()];
-            black_box(&Run::open(run.count, stocks)).0
+            black_box(&Run::open(run.edition, run.count, stocks)).0
         }),
         "send" => changed(run, Some(Call::HandOver { from, to, cars: 3 })),
         "receive" => changed(run, Some(Call::Receipt { from, to })),
@@ -70,7 +70,10 @@ fn on_zone(name: &str, zone: Zone) -> Option<Once> {
         Box::new(move || black_box(&step(*black_box(&zone))).1.refusal)
     };
     Some(match name {
-        "zone-open" => Box::new(move || black_box(&Zone::open(1, black_box(zone.count), 100)).0),
+        "zone-open" => Box::new(move || {
+            let count = black_box(zone.count);
+            black_box(&Zone::open(zone.edition, 1, count, 100)).0
+        }),
         "zone-send" => stepped(|zone| zone.send(2, 3)),
         "zone-receive" => stepped(|zone| zone.take_hand_over(2, 3, true)),
         "zone-request" => stepped(|zone| zone.take_request(2)),
