@@ -23,8 +23,8 @@ pub struct Seen {
     pub answer: u32,
     /// The bytes that it wrote.
     pub bytes: Vec<u8>,
-    /// The present stocks and lines, requests and marked bits left out; line checks may stand on
-    /// the lines, and are left out here.
+    /// The present stocks and lines, requests and marked bits left out. Line checks stand among the
+    /// hand-overs here; the checker reads the lines without them.
     pub stocks: Vec<u64>,
     pub lines: Lines,
 }
