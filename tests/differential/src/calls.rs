@@ -44,6 +44,7 @@ pub fn every(counts: &mut Counts, random: &mut Random) -> Result<(), Failure> {
     Ok(())
 }
 
+/// An opening with any arguments.
 fn openings(counts: &mut Counts, random: &mut Random) -> Result<(), Failure> {
     let edition = any_edition(random);
     opening(counts, random, edition)
