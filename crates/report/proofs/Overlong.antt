@@ -5,9 +5,10 @@ use mathlib.Core.List.{List}
 use Prim.Native.Nat.{ℕ, _+_, _*_, _<_, _≤_}
 use native.Mathlib.Omega.{arith}
 use borrow.Author.Tests.{leb-true, leb-false, le-leb, ne-eqb}
-use lib.Dec.{leb, eqb}
+use lib.Dec.{leb}
 use lib.ListN.{length, take, replicate}
 use lib.Seq.{length-take-le, take-all, getD-take}
+use Rattle.rules.specs.Edition.{isEdition}
 use Rattle.rules.proofs.Tests.{and-right}
 use Rattle.words.specs.Bytes.{wordAt}
 use Rattle.words.specs.Header.{editionIn, zonesIn, numberIn}

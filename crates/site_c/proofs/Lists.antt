@@ -76,11 +76,11 @@ calls-plain [] r w = refl
 calls-plain (c ∷ cs) r w = rw (call-plain c r w) (calls-plain cs (answer c r .run) (call-whole c r w))
 
 -- A list of calls after an opening, and what is written after it.
-module _ (count : ℕ) (stocks : List ℕ) (cs : List SiteCall) where
+module _ (edition count : ℕ) (stocks : List ℕ) (cs : List SiteCall) where
   abbrev o : Opening
-  o = openingAs (termsAs count) stocks
+  o = openingAs (termsAs edition count) stocks
 
-  pub opened-plain : afterPlain cs (openPlain count stocks .run) ≡ plainRun (after cs (openCall o .run))
+  pub opened-plain : afterPlain cs (openPlain edition count stocks .run) ≡ plainRun (after cs (openCall o .run))
   opened-plain = calls-plain cs (openCall o .run) (open-whole o)
 
 pub record-plain : (r : Run) (lent : List ℕ) → WholeRun r → recordPlain (plainRun r) lent ≡ plainOutput (recordCall r lent)
