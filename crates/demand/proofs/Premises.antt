@@ -1,11 +1,12 @@
--- The premises of demand 3 are met: every list of calls can be made from every opening, every recording call has an answer, and case A is
--- an instance whose recording is complete.
-use mathlib.Core.Path.{_≡_, refl}
+-- The premises of demand 3 are met: every list of calls can be made from every opening, every recording call has an answer, and case A
+-- and a case with a line check in edition 2 are instances whose recordings are complete.
+use mathlib.Core.Path.{_≡_, refl, ap}
 use mathlib.Core.List.{List, [], _∷_}
 use Prim.Native.Nat.{ℕ}
 use native.Mathlib.Omega.{arith}
 use lib.ListN.{take, replicate}
 use Rattle.rules.specs.Cut.{Cut}
+use Rattle.rules.specs.Edition.{isEdition, isTraffic}
 use Rattle.rules.specs.Questions.{isCount, isOn}
 use Rattle.rules.specs.Sets.{has, members}
 use Rattle.local.specs.Requesting.{requestedBy, startedBy}
@@ -23,7 +24,7 @@ use Rattle.run.specs.declared.SiteCall.the-variants.{Send, Receive, Start}
 use Rattle.run.specs.declared.Terms.{Terms}
 use Rattle.journal.specs.Format.{journalBytes, decode}
 use Rattle.journal.specs.Reading.{readCall}
-use Rattle.journal.specs.Writing.{sameLocal, sameChannel, sameZones, sameChannels, sameState, replaysTo, isReplayed}
+use Rattle.journal.specs.Writing.{sameLocal, sameChannel, sameZones, sameChannels, sameState, replaysTo, isReplayed, Output}
 use Rattle.recording.specs.Call.{noRequests, recordCall}
 use Rattle.recording.specs.Layout.{itemWords, recordingBytes}
 use Rattle.recording.specs.Shown.{shownIn}
@@ -41,9 +42,22 @@ makes (c ∷ cs) r t = then (answer c r) (t .0) refl (makes cs (answer c r .run)
 pub records : (r : Run) (lent : List ℕ) → RecordAnswers r lent (recordCall r lent .answer) (recordCall r lent .bytes)
 records r lent = (refl, refl)
 
+-- So demand 3 says of every list of calls whose recording is complete that this, as the bytes written show it, is a consistent cut.
+abbrev recordedBy : Opening → List SiteCall → ℕ → Output
+recordedBy o cs lent = recordCall (after cs (openCall o .run)) (replicate lent 0)
+
+recorded-cut : (o : Opening) (cs : List SiteCall) (lent : ℕ) → AllTyped cs → openCall o .refusal ≡ 0
+    → recordedBy o cs lent .answer .refusal ≡ 0
+    → Cut (openingOf o) (acceptedCalls cs (openCall o .run)) (shownIn (take (recordedBy o cs lent .answer .written) (recordedBy o cs lent .bytes)))
+recorded-cut o cs lent typed opened answered =
+    let r = after cs (openCall o .run) in
+    let x = recordedBy o cs lent in
+    demand-three (o .terms) (o .stocks) (openCall o) (opens (o .terms) (o .stocks)) opened cs _ r (makes cs (openCall o .run) typed)
+    (replicate lent 0) (x .bytes) (x .answer) (records r (replicate lent 0)) .cut answered
+
 -- Case A: stocks 10, 20, 30 and its nine calls, with a refused one between.
 abbrev pub openingA : Opening
-openingA = openingAs (termsAs 3) (10 ∷ 20 ∷ 30 ∷ [])
+openingA = openingAs (termsAs 1 3) (10 ∷ 20 ∷ 30 ∷ [])
 
 abbrev pub callsA : List SiteCall
 callsA =
@@ -53,19 +67,42 @@ typedA : AllTyped callsA
 typedA = (omega arith, (tt, (omega arith, (omega arith, (tt, (tt, (omega arith, (tt, (tt, (tt, tt))))))))))
 
 openedA : openCall openingA .refusal ≡ 0
-unfolding openCall isCount
+unfolding openCall isEdition isCount
 openedA = refl
 
-answeredA : recordCall (after callsA (openCall openingA .run)) (replicate 16 0) .answer .refusal ≡ 0
-unfolding has members isCount isOn requestedBy startedBy itemOf messageWord pushed movedDown popped allFree requestedAll isChannel localSound localsSound channelSound channelsSound stocks carsOnChannels partsSound hasStarted openedRun isPair openCall answer journalBytes decode readCall sameLocal sameChannel sameZones sameChannels sameState replaysTo isReplayed noRequests recordCall itemWords recordingBytes
+answeredA : recordedBy openingA callsA 16 .answer .refusal ≡ 0
+unfolding isEdition isTraffic has members isCount isOn requestedBy startedBy itemOf messageWord pushed movedDown popped allFree requestedAll isChannel localSound localsSound channelSound channelsSound stocks carsOnChannels partsSound hasStarted openedRun isPair openCall answer journalBytes decode readCall sameLocal sameChannel sameZones sameChannels sameState replaysTo isReplayed noRequests recordCall itemWords recordingBytes
 answeredA = refl
 
--- So demand 3 says of case A that its recording, as the bytes written show it, is a consistent cut.
 pub case-a : Cut (openingOf openingA) (acceptedCalls callsA (openCall openingA .run))
-    (shownIn (take (recordCall (after callsA (openCall openingA .run)) (replicate 16 0) .answer .written)
-    (recordCall (after callsA (openCall openingA .run)) (replicate 16 0) .bytes)))
-case-a =
-    let r = after callsA (openCall openingA .run) in
-    let o = recordCall r (replicate 16 0) in
-    demand-three (openingA .terms) (openingA .stocks) (openCall openingA) (opens (openingA .terms) (openingA .stocks)) openedA callsA _ r (makes callsA (openCall openingA .run) typedA)
-    (replicate 16 0) (o .bytes) (o .answer) (records r (replicate 16 0)) .cut answeredA
+    (shownIn (take (recordedBy openingA callsA 16 .answer .written) (recordedBy openingA callsA 16 .bytes)))
+case-a = recorded-cut openingA callsA 16 typedA openedA answeredA
+
+-- The same stocks in edition 2. Zone 1, which depends on zone 2, starts, and sends zone 3 a line check with the flag; zone 3 takes it, and
+-- hands cars to zone 2, which takes them before the request of zone 1. So zone 3 is recorded too, with the event before the request.
+abbrev pub openingCheck : Opening
+openingCheck = openingAs (termsAs 2 3) (10 ∷ 20 ∷ 30 ∷ [])
+
+abbrev pub callsCheck : List SiteCall
+callsCheck =
+    Send 2 1 4 ∷ Receive 2 1 ∷ Start 1 ∷ Send 1 3 0 ∷ Receive 1 3 ∷ Send 3 2 5 ∷ Receive 3 2 ∷ Receive 1 2 ∷ Receive 2 3 ∷ []
+
+typedCheck : AllTyped callsCheck
+typedCheck = (omega arith, (tt, (tt, (omega arith, (tt, (omega arith, (tt, (tt, (tt, tt)))))))))
+
+openedCheck : openCall openingCheck .refusal ≡ 0
+unfolding openCall isEdition isCount
+openedCheck = refl
+
+-- "48 00 80 01 00 0E 80 02 00 15 80 01 00 19".
+shownCheck : recordedBy openingCheck callsCheck 14
+    ≡ record {
+      answer = record { refusal = 0; written = 14 };
+      bytes = 72 ∷ 0 ∷ 128 ∷ 1 ∷ 0 ∷ 14 ∷ 128 ∷ 2 ∷ 0 ∷ 21 ∷ 128 ∷ 1 ∷ 0 ∷ 25 ∷ [];
+    }
+unfolding isEdition isTraffic has members isCount isOn requestedBy startedBy itemOf messageWord pushed movedDown popped allFree requestedAll isChannel localSound localsSound channelSound channelsSound stocks carsOnChannels partsSound hasStarted openedRun isPair openCall answer journalBytes decode readCall sameLocal sameChannel sameZones sameChannels sameState replaysTo isReplayed noRequests recordCall itemWords recordingBytes
+shownCheck = refl
+
+pub case-check : Cut (openingOf openingCheck) (acceptedCalls callsCheck (openCall openingCheck .run))
+    (shownIn (take (recordedBy openingCheck callsCheck 14 .answer .written) (recordedBy openingCheck callsCheck 14 .bytes)))
+case-check = recorded-cut openingCheck callsCheck 14 typedCheck openedCheck (ap (λ (x : Output). x .answer .refusal) shownCheck)

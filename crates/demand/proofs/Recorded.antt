@@ -32,11 +32,13 @@ use Rattle.journal.specs.Writing.{isReplayed, Output, refusedOutput, writtenOut
 use Rattle.journal.proofs.Replays.{named}
 use Rattle.journal.proofs.TrueRuns.{true-tells, true-replayed}
 use Rattle.journal.proofs.Words.{decode-record}
+use Rattle.words.specs.Bytes.{wordAt}
+use Rattle.words.specs.Header.{editionIn}
 use Rattle.recording.specs.Call.{ruleCallsIn, noRequests, snapshotOf, recordCall}
 use Rattle.recording.specs.Layout.{recordingBytes}
 use Rattle.recording.specs.Shown.{shownIn}
 use Rattle.recording.proofs.Complete.{complete-if, if-complete}
-use Rattle.recording.proofs.Shows.{recording-shows, recording-cuts}
+use Rattle.recording.proofs.Shows.{recording-shows, recording-edition, recording-cuts}
 use Rattle.recording.proofs.Sized.{recording-most}
 use Rattle.recording.proofs.Zones.{site-is}
 use Rattle.demand.specs.Demand.{Demand}
@@ -135,6 +137,8 @@ module _ (r : Run) (w : WholeRun r) (e : isReplayed r ≡ true) (lent : List ℕ
     cut = λ z. let a = by-number .accepted z in
         subst (λ (bytes : List ℕ). Cut (openingOf (openedWith r)) (ruleCallsIn (recordWords r)) (shownIn bytes)) (append-nil (bytesOf r) ∙ sym (a .2))
         (recording-cuts r w e (a .0) (a .1) []);
+    shows-edition = λ z. ap (λ (bytes : List ℕ). editionIn (wordAt bytes 0)) (by-number .accepted z .2 ∙ sym (append-nil (bytesOf r)))
+        ∙ recording-edition r w e [];
     ends = ap present (sym (site-is r w e));
     refusals = by-number .refusals;
     not-started = λ q z. ap (λ (s : Site). isPermanent (s .zone z .checkpoint)) (sym (site-is r w e)) ∙ none-permanent r (by-number .twelve q) z;

@@ -13,6 +13,8 @@ use Rattle.run.specs.Opening.{openingOf}
 use Rattle.run.specs.declared.Opening.{Opening}
 use Rattle.run.specs.declared.Run.{Run}
 use Rattle.journal.specs.declared.Written.{Written}
+use Rattle.words.specs.Bytes.{wordAt}
+use Rattle.words.specs.Header.{editionIn}
 use Rattle.recording.specs.Layout.{mostRecordingBytes, recordingBytes}
 use Rattle.recording.specs.Shown.{shownIn}
 
@@ -24,7 +26,10 @@ pub record Demand (o : Opening) (cs : List Call) (r : Run) (lent : List ℕ) (w 
   pub if-complete : Complete (run cs (openS (openingOf o))) → length (recordingBytes (o .terms) (snapshot (openingOf o) cs)) ≤ length lent → w .refusal ≡ 0
   -- "The recorded zones (those shown firm), events, stocks and lines are those in the bytes it writes."
   pub cut : w .refusal ≡ 0 → Cut (openingOf o) cs (shownIn (take (w .written) bytes))
-  -- The second part of the replay ends with "those of the run after the list, requests and marked bits left out".
+  -- "a recording shows its run's edition", in its header.
+  pub shows-edition : w .refusal ≡ 0 → editionIn (wordAt (take (w .written) bytes) 0) ≡ o .terms .edition
+  -- The second part of the replay ends with "those of the run after the list, requests and marked bits left out", "read
+  -- without checks".
   pub ends : present (run cs (openS (openingOf o))) ≡ present (siteOf r)
   -- "The new one may refuse to show a count of a true run only if none was started, a request is still under way or too few bytes were
   -- lent."

@@ -7,7 +7,7 @@ use Rattle.site_c.specs.Plain.{answerIn, plainIn, openPlain, callPlain, recordP
 use Rattle.site_c.proofs as part
 use Rattle.promises.specs.Promise.{Keeps}
 
-pub cut-site-open : Keeps part.cut_site_open.ended part.cut_site_open.Symbol.routine (λ _ count stocks r. r ≡ openPlain count (now stocks))
+pub cut-site-open : Keeps part.cut_site_open.ended part.cut_site_open.Symbol.routine (λ _ edition count stocks r. r ≡ openPlain edition count (now stocks))
 cut-site-open _ = part.cut_site_open.Met.met
 
 pub cut-site-send : Keeps part.cut_site_send.ended part.cut_site_send.Symbol.routine

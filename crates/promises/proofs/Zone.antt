@@ -5,7 +5,7 @@ use Rattle.zone.specs.Zone.{openZone, sendStep, receiveStep, requestStep, start
 use Rattle.zone.proofs as part
 use Rattle.promises.specs.Promise.{Keeps}
 
-pub «open» : Keeps part.Zone.«open».ended part.Zone.«open».Symbol.routine (λ _ count number stock r. r ≡ openZone count number stock)
+pub «open» : Keeps part.Zone.«open».ended part.Zone.«open».Symbol.routine (λ _ edition count number stock r. r ≡ openZone edition count number stock)
 «open» _ = part.Zone.«open».Met.met
 
 pub send : Keeps part.Zone.send.ended part.Zone.send.Symbol.routine (λ _ zone to cars r. r ≡ sendStep zone to cars)

@@ -6,7 +6,7 @@ use Rattle.zone_c.specs.Plain.{openPlain, sendPlain, receivePlain, requestPlain
 use Rattle.zone_c.proofs as part
 use Rattle.promises.specs.Promise.{Keeps}
 
-pub cut-zone-open : Keeps part.cut_zone_open.ended part.cut_zone_open.Symbol.routine (λ _ count number stock r. r ≡ openPlain count number stock)
+pub cut-zone-open : Keeps part.cut_zone_open.ended part.cut_zone_open.Symbol.routine (λ _ edition count number stock r. r ≡ openPlain edition count number stock)
 cut-zone-open _ = part.cut_zone_open.Met.met
 
 pub cut-zone-send : Keeps part.cut_zone_send.ended part.cut_zone_send.Symbol.routine (λ _ zone to cars r. r ≡ sendPlain zone to cars)

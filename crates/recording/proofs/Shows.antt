@@ -22,7 +22,7 @@ use Rattle.rules.proofs.Tests.{both-true, eqb-refl}
 use Rattle.channel.specs.Channels.{channelIndex, isChannel}
 use Rattle.run.specs.Claims.{WholeRun}
 use Rattle.run.specs.Layout.{sendRecord}
-use Rattle.run.specs.State.{hasStarted, countOf, termsOf}
+use Rattle.run.specs.State.{hasStarted, editionOf, countOf, termsOf}
 use Rattle.run.specs.declared.Answer.{Answer}
 use Rattle.run.specs.declared.Run.{Run}
 use Rattle.run.proofs.BelowLaws.{split}
@@ -42,7 +42,7 @@ use Rattle.recording.proofs.Complete.{complete-if}
 use Rattle.recording.proofs.Sized.{zones-length}
 use Rattle.recording.proofs.Zones.{wordsAt, firstRun, firstSite, reached, site-is, calls-allowed}
 use Rattle.run.specs.Opening.{openedRun, openingOf}
-use Rattle.words.specs.Header.{zonesIn, numberIn}
+use Rattle.words.specs.Header.{editionIn, zonesIn, numberIn}
 use Rattle.run.specs.declared.Terms.{Terms}
 
 -- What the layout asks of a recording of a site of so many zones: its fields have room, and it shows nothing that the site does not have.
@@ -150,6 +150,11 @@ module _ (t : Terms) (s : Snapshot) (fits : Fits (t .count) s) (on : (k : ℕ) �
   zones-are : zonesIn (wordAt shownBytes 0) ≡ count
   zones-are = ap zonesIn header
       ∙ ap (λ (t : Terms). t .count) (header-fields t (length (itemWords count s)) (fits .fewest) (fits .most) (fits .number) .terms)
+
+  edition-is : editionIn (wordAt (recordingBytes t s ++ rest) 0) ≡ t .edition
+  unfolding shownBytes
+  edition-is = ap editionIn header
+      ∙ ap (λ (t : Terms). t .edition) (header-fields t (length (itemWords count s)) (fits .fewest) (fits .most) (fits .number) .terms)
 
   number-are : numberIn (wordAt shownBytes 0) ≡ length (itemWords count s)
   number-are = ap numberIn header ∙ header-fields t (length (itemWords count s)) (fits .fewest) (fits .most) (fits .number) .number
@@ -319,6 +324,10 @@ module _ (r : Run) (w : WholeRun r) (e : isReplayed r ≡ true) where
   -- The bytes that are written, and what is behind them, show the recording of the rules.
   pub recording-shows : (rest : List ℕ) → shownIn (recordingBytes (termsOf (r .head)) (snapshotOf r) ++ rest) ≡ snapshotOf r
   recording-shows rest = shown-is (termsOf (r .head)) (snapshotOf r) snapshot-fits (words-on r w e) rest
+
+  -- Their header shows the run's edition.
+  pub recording-edition : (rest : List ℕ) → editionIn (wordAt (recordingBytes (termsOf (r .head)) (snapshotOf r) ++ rest) 0) ≡ editionOf (r .head)
+  recording-edition rest = edition-is (termsOf (r .head)) (snapshotOf r) snapshot-fits (words-on r w e) rest
 
   -- So demand 3 holds of what they show, once questions 12 and 13 are answered yes.
   pub recording-cuts : hasStarted (r .head) ≡ true → noRequests (countOf (r .head)) (r .channels) ≡ true → (rest : List ℕ)
