@@ -1,5 +1,5 @@
--- The worked edges (docs/RULES.md, section 8) in one table. A run that a row begins with is opened or reached in an earlier row, but for
--- those of `states`. Numbers with 0x are hexadecimal, as in the layouts.
+-- The worked edges (docs/RULES.md, section 8) in one table, those of editions in the file beside this one. A run that a row begins with is
+-- opened or reached in an earlier row, but for those of `states`. Numbers with 0x are hexadecimal, as in the layouts.
 use mathlib.Core.Bool.{true, false}
 use mathlib.Core.List.{List, [], _∷_, _++_, map}
 use Prim.Native.Nat.{ℕ, _+_}
@@ -12,6 +12,7 @@ use Rattle.run.specs.declared.SiteCall.{SiteCall}
 use Rattle.run.specs.declared.SiteCall.the-variants.{Send, Receive, Start}
 use Rattle.journal.specs.Claims.{caseA}
 use Rattle.zone.proofs.Examples as zones
+use Rattle.edges.specs.Editions.{lent, editions}
 use Rattle.edges.specs.Rows.{
   Row,
   partRow,
@@ -30,10 +31,6 @@ use Rattle.edges.specs.Rows.{
   runWith,
   nothing,
 }
-
--- Lent bytes before a call are 255 each.
-abbrev pub lent : ℕ → List ℕ
-lent n = replicate n 0xFF
 
 -- Runs of two zones, opened with 5 and 7 cars.
 abbrev pub twoWith : List Local → List Channel → List ℕ → Run
@@ -322,7 +319,7 @@ fullChannels =
 
 abbrev pub noCars : List Row
 noCars =
-    -- A message of 0 cars joins the channel and is an own event of its sender.
+    -- In edition 1 a message of 0 cars joins the channel and is an own event of its sender.
     gives three [] (Send 1 2 0) 0 (threeWith
     (zone 10 1 1 None ∷ zone 20 2 0 None ∷ zone 30 4 0 None ∷ [])
     (channel 1 2 (message 0 false ∷ []) ∷ [])
@@ -419,11 +416,11 @@ journals =
     writes two [] (lent 5) 14 0 (lent 5)
     ∷ writes two [] (lent 6) 0 6 (journalWith 0 [])
     ∷ writes two [] (lent 9) 0 6 (journalWith 0 (lent 3))
-    -- The journal has no byte, or one; its edition is 0, 2 or 7.
+    -- The journal has no byte, or one; its edition is 0, 3 or 7.
     ∷ reads [] 15 0 nothing
     ∷ reads (0x24 ∷ []) 15 0 nothing
     ∷ reads (0x04 ∷ 0x00 ∷ 0x00 ∷ 0x05 ∷ 0x00 ∷ 0x07 ∷ []) 15 0 nothing
-    ∷ reads (0x44 ∷ 0x00 ∷ 0x00 ∷ 0x05 ∷ 0x00 ∷ 0x07 ∷ []) 15 0 nothing
+    ∷ reads (0x64 ∷ 0x00 ∷ 0x00 ∷ 0x05 ∷ 0x00 ∷ 0x07 ∷ []) 15 0 nothing
     ∷ reads (0xE4 ∷ 0x00 ∷ 0x00 ∷ 0x05 ∷ 0x00 ∷ 0x07 ∷ []) 15 0 nothing
     -- The zones field is 0; the records are 1,001; they are 1,000, but missing.
     ∷ reads (0x20 ∷ 0x00 ∷ 0x00 ∷ 0x05 ∷ []) 16 0 nothing
@@ -495,4 +492,4 @@ states =
 abbrev pub table : List Row
 table =
     map partRow zones.table ++ openings ++ cases ++ refusals ++ sixteen ++ thousand ++ starts ++ fullChannels ++ noCars ++ recordedChannels
-    ++ journals ++ states
+    ++ journals ++ states ++ editions

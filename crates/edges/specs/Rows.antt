@@ -69,9 +69,15 @@ expectations (r ∷ rs) = r .expected ∷ expectations rs
 abbrev pub partRow : zones.Row → Row
 partRow r = record { call = Part (r .answer); expected = part (r .expected) }
 
--- An opening by its zone count and stocks, with the refusal's number and the run.
+-- An opening by its edition, zone count and stocks, with the refusal's number and the run; and one of edition 1.
+abbrev pub opensIn : ℕ → ℕ → List ℕ → ℕ → Run → Row
+opensIn edition count stocks n r = record {
+  call = Open (openingAs (termsAs edition count) stocks);
+  expected = site (record { refusal = n; run = r });
+}
+
 abbrev pub opens : ℕ → List ℕ → ℕ → Run → Row
-opens count stocks n r = record { call = Open (openingAs (termsAs count) stocks); expected = site (record { refusal = n; run = r }) }
+opens = opensIn 1
 
 -- A call on a run after some calls, with the refusal's number and the run.
 abbrev pub gives : Run → List SiteCall → SiteCall → ℕ → Run → Row
@@ -154,11 +160,11 @@ zonesFrom k zero zs = []
 zonesFrom k (suc n) [] = zone 0 (2 ^ k) 0 None ∷ zonesFrom (suc k) n []
 zonesFrom k (suc n) (z ∷ zs) = z ∷ zonesFrom (suc k) n zs
 
--- A run: its opening stocks, its zones, its channels that are not empty, and the words of its records.
-abbrev pub runWith : List ℕ → List Local → List Channel → List ℕ → Run
-runWith opening zones channels records = record {
+-- A run: its edition, its opening stocks, its zones, its channels that are not empty, and the words of its records; and one of edition 1.
+abbrev pub runIn : ℕ → List ℕ → List Local → List Channel → List ℕ → Run
+runIn edition opening zones channels records = record {
   head = record {
-    opening = record { terms = record { count = length opening }; stocks = padded 8 opening };
+    opening = record { terms = record { edition = edition; count = length opening }; stocks = padded 8 opening };
     records = length records;
     zones = zonesFrom 0 8 zones;
   };
@@ -166,6 +172,9 @@ runWith opening zones channels records = record {
   journal = padded 1000 records;
 }
 
--- "a run of 2 zones with stock 0 and no records".
+abbrev pub runWith : List ℕ → List Local → List Channel → List ℕ → Run
+runWith = runIn 1
+
+-- "a run of 2 zones with stock 0 and no records", of edition 1.
 abbrev pub nothing : Run
 nothing = runWith (0 ∷ 0 ∷ []) (zone 0 1 0 None ∷ zone 0 2 0 None ∷ []) [] []

@@ -1,9 +1,9 @@
 -- Editions of the zone part, of every zone, sound or not: no step changes its edition, and from edition 2 on a line check, a hand-over of
 -- 0 cars, leaves it as it was, accepted or refused.
-use mathlib.Core.Path.{_≡_, refl, ap}
+use mathlib.Core.Path.{_≡_, refl, _∙_, ap}
 use mathlib.Core.Bool.{Bool, true, false, cond}
 use mathlib.Core.List.{List, [], _∷_}
-use Prim.Native.Nat.{ℕ, _≤_}
+use Prim.Native.Nat.{ℕ, zero, suc, _≤_}
 use Rattle.rules.specs.Change.{on}
 use Rattle.rules.specs.Edition.{isTraffic}
 use Rattle.rules.specs.Questions.{Question, ask, index}
@@ -45,6 +45,11 @@ module _ (z : Zone) where
   unfolding startStep
   start-edition = step-keeps edition (startAsks z) z _ refl
 
+-- The zone after n messages of 0 cars sent to another zone.
+abbrev pub afterChecks : ℕ → ℕ → Zone → Zone
+afterChecks zero to z = z
+afterChecks (suc n) to z = sendStep (afterChecks n to z) to 0 .zone
+
 -- "it is no own event, adds nothing to a heard set, causes no mark".
 module _ (z : Zone) (from-two : 2 ≤ z .edition) where
   -- What a change makes of the zone, where it is made for traffic alone.
@@ -58,3 +63,8 @@ module _ (z : Zone) (from-two : 2 ≤ z .edition) where
   pub receive-check : (from : ℕ) (flag : Bool) → receiveStep z from 0 flag .zone ≡ z
   unfolding receiveStep
   receive-check from flag = step-keeps (λ (y : Zone). y) (receiveAsks z from 0) z _ (still (received (index from) 0 flag))
+
+  -- However many checks are sent, the zone is as it was.
+  pub checks-kept : (to n : ℕ) → afterChecks n to z ≡ z
+  checks-kept to zero = refl
+  checks-kept to (suc n) = ap (λ (y : Zone). sendStep y to 0 .zone) (checks-kept to n) ∙ send-check to

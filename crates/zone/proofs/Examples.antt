@@ -1,8 +1,9 @@
 -- Worked examples of the zone part: each row's answer, by the definitions that the contracts cite, is what docs/RULES.md says.
-use mathlib.Core.Path.{_≡_, refl}
+use mathlib.Core.Path.{_≡_, refl, ap}
 use mathlib.Core.Bool.{Bool, true, false}
 use mathlib.Core.List.{List, [], _∷_}
 use Prim.Native.Nat.{ℕ}
+use native.Mathlib.Omega.{arith}
 use Rattle.rules.specs.declared.Saved.{Saved}
 use Rattle.rules.specs.declared.Checkpoint.{Checkpoint}
 use Rattle.rules.specs.declared.Checkpoint.the-variants.{None, Mutable, Permanent}
@@ -21,6 +22,7 @@ use Rattle.zone.specs.Zone.{
 use Rattle.zone.specs.declared.Zone.{Zone}
 use Rattle.zone.specs.declared.Step.{Step}
 use Rattle.zone.specs.declared.ZoneOpened.{ZoneOpened}
+use Rattle.zone.proofs.Checks.{afterChecks, checks-kept}
 
 -- What the zone part answers: an opening, or a step.
 pub data Reply : Type 0 where
@@ -104,10 +106,13 @@ table =
     -- In edition 1 a message of 0 cars is treated as any other: it adds to the dependency set, or makes a mutable checkpoint.
     ∷ gives (receiveStep (zone 2 3 8 2 1 None) 3 0 false) 0 (zone 2 3 8 6 2 None) false 0 0
     ∷ gives (receiveStep (zone 2 3 8 2 1 None) 3 0 true) 0 (zone 2 3 8 2 2 (Mutable (saved 8 1))) false 0 0
-    -- The editions defined are 1 and 2; 15 is asked first, and a refused opening hands back edition 1.
+    -- The editions defined are 1 and 2, none of 0, 3, 7 and 255; 15 is asked first, and a refused opening hands back edition 1.
     ∷ opens (openZone 0 2 1 5) 15 (zone 1 2 0 1 0 None)
+    ∷ opens (openZone 1 2 1 5) 0 (zoneIn 1 1 2 5 1 0 None)
     ∷ opens (openZone 2 2 1 5) 0 (zoneIn 2 1 2 5 1 0 None)
     ∷ opens (openZone 3 1 4 5) 15 (zone 1 2 0 1 0 None)
+    ∷ opens (openZone 7 2 1 5) 15 (zone 1 2 0 1 0 None)
+    ∷ opens (openZone 255 2 1 5) 15 (zone 1 2 0 1 0 None)
     ∷ opens (openZone 2 9 1 5) 2 (zone 1 2 0 1 0 None)
     ∷ opens (openZone 2 3 4 5) 5 (zone 1 2 0 1 0 None)
     -- A zone of an edition that is not defined meets 1.
@@ -131,3 +136,9 @@ table =
 pub edges : answers table ≡ expectations table
 unfolding isEdition isTraffic isCount isOn isOther isZoneSound openZone sendStep receiveStep requestStep startStep requestedBy startedBy
 edges = refl
+
+-- A check behind 1,000 others is accepted, since none of them is an own event.
+pub check-1001 : sendStep (afterChecks 1000 2 (zoneIn 2 1 2 5 1 3 None)) 2 0
+    ≡ record { refusal = 0; zone = zoneIn 2 1 2 5 1 3 None; flag = false; to = 0; carried = 0 }
+unfolding isEdition isTraffic isCount isOn isOther isZoneSound sendStep
+check-1001 = ap (λ (z : Zone). sendStep z 2 0) (checks-kept (zoneIn 2 1 2 5 1 3 None) (omega arith) 2 1000)
