@@ -7,7 +7,6 @@ use Rattle.rules.specs.Site.{message, request}
 use Rattle.rules.specs.declared.Checkpoint.the-variants.{None}
 use Rattle.rules.specs.declared.Local.{Local}
 use Rattle.run.specs.declared.Run.{Run}
-use Rattle.run.specs.declared.SiteCall.{SiteCall}
 use Rattle.run.specs.declared.SiteCall.the-variants.{Send, Receive, Start}
 use Rattle.edges.specs.Rows.{
   Row,

@@ -11,16 +11,17 @@ use lib.Dec.{eqb}
 use lib.Pow.{pow-pos}
 use borrow.Author.Tests.{eqb-true, ltb-true}
 use Rattle.rules.specs.Change.{on, join}
-use Rattle.rules.specs.Edition.{isEdition, isTraffic}
+use Rattle.rules.specs.Edition.{isEdition}
 use Rattle.rules.specs.Sets.{has, nobody}
 use Rattle.rules.specs.Site.{Item, message, request, Call, send, receive, start}
-use Rattle.rules.specs.Zone.{isPermanent, sent, received, checkpointAfter, requested, targets, carried}
+use Rattle.rules.specs.Zone.{isPermanent, checkpointAfter, requested, targets, carried}
 use Rattle.rules.specs.declared.Checkpoint.{Checkpoint}
 use Rattle.rules.specs.declared.Checkpoint.the-variants.{None, Mutable, Permanent}
 use Rattle.rules.specs.declared.Local.{Local}
 use Rattle.rules.specs.declared.Saved.{Saved}
 use Rattle.rules.specs.Questions.{isCount, isOn, index}
-use Rattle.rules.proofs.Guarded.{on-same, on-same-at}
+use Rattle.rules.proofs.Editions.{sent-keeps, received-keeps}
+use Rattle.rules.proofs.Guarded.{on-same-at}
 use Rattle.rules.proofs.Members.{within-difference}
 use Rattle.rules.proofs.SetLaws.{has-nobody}
 use Rattle.rules.proofs.Tests.{and-left, and-right, both-true}
@@ -63,21 +64,20 @@ record Answered (z : Zone) (turning : Bool) (x : Step) : Type 0 where
   shown-kept : (isPermanent (z .checkpoint) ≡ true) ⊎ (turning ≡ false) → shown (x .zone .checkpoint) ≡ shown (z .checkpoint)
   none-sent : turning ≡ false → x .to ≡ nobody
 
--- A change that is made for traffic alone.
-traffic-shown : (edition cars : ℕ) (g : Local → Local) (z : Zone) → shown (g (localOf z) .checkpoint) ≡ shown (z .checkpoint)
-    → shown (on (isTraffic edition cars) g (localOf z) .checkpoint) ≡ shown (z .checkpoint)
-traffic-shown edition cars g z e = on-same (λ (l : Local). shown (l .checkpoint)) (isTraffic edition cars) g (localOf z) e
+-- A local state shows what the zone shows.
+abbrev ShownAs : Zone → Local → Type 0
+ShownAs z l = shown (l .checkpoint) ≡ shown (z .checkpoint)
 
 sent-answered : (z : Zone) (to cars : ℕ) → eqb (sendStep z to cars .refusal) 0 ≡ true → Answered z false (sendStep z to cars)
 sent-answered z to cars e = subst (Answered z false) (sym (send-step z to cars e .0))
-    (record { to-within = pow-pos (z .count); shown-kept = λ _. traffic-shown (z .edition) cars (sent cars) z refl; none-sent = λ _. refl })
+    (record { to-within = pow-pos (z .count); shown-kept = λ _. sent-keeps (z .edition) cars (localOf z) (ShownAs z) (λ q. q) refl; none-sent = λ _. refl })
 
 received-answered : (z : Zone) (from cars : ℕ) (flag : Bool) → eqb (receiveStep z from cars flag .refusal) 0 ≡ true
     → Answered z false (receiveStep z from cars flag)
 received-answered z from cars flag e = subst (Answered z false) (sym (receive-step z from cars flag e .0))
     (record {
       to-within = pow-pos (z .count);
-      shown-kept = λ _. traffic-shown (z .edition) cars (received (index from) cars flag) z (kept (z .checkpoint) _ flag);
+      shown-kept = λ _. received-keeps (z .edition) cars (localOf z) (ShownAs z) (index from) flag (λ q. kept (z .checkpoint) _ flag) refl;
       none-sent = λ _. refl;
     })
   where

@@ -4,7 +4,7 @@ use mathlib.Core.Bool.{cond, true, Bool, not, _||_}
 use mathlib.Core.List.{List, [], _∷_, _++_}
 use Prim.Native.Nat.{ℕ, _+_, _<_, _≤_}
 use lib.Dec.{ltb, leb}
-use lib.ListN.{length, getD, take}
+use lib.ListN.{length, take}
 use Rattle.rules.specs.Below.{listBelow}
 use Rattle.rules.specs.Cut.{eventsOf, stockOf}
 use Rattle.rules.specs.Edition.{isEdition}

@@ -10,8 +10,7 @@ use lib.ListN.{length, drop, getD, length-append, length-drop}
 use lib.Seq.{length-take-le}
 use borrow.Author.Tests.{eqb-true, ltb-true, ne-eqb}
 use Rattle.rules.specs.Change.{cons-if}
-use Rattle.rules.specs.Edition.{isTraffic}
-use Rattle.rules.specs.Zone.{isPermanent, opened, saved, sent, sentUnder, received, receivedUnder, checkpointAfter, started, requested, madePermanent}
+use Rattle.rules.specs.Zone.{isPermanent, opened, saved, sentUnder, receivedUnder, checkpointAfter, started, requested, madePermanent}
 use Rattle.rules.specs.Site.{Item, message, request, Site, Call, send, receive, start, popS, turnS, stepS, takeS, openS}
 use Rattle.rules.specs.Cut.{run, eventsOf, stockOf}
 use Rattle.rules.specs.declared.Local.{Local}
@@ -19,6 +18,7 @@ use Rattle.rules.specs.declared.Saved.{Saved}
 use Rattle.rules.specs.declared.Checkpoint.{Checkpoint}
 use Rattle.rules.specs.declared.Checkpoint.the-variants.{None, Mutable, Permanent}
 use Rattle.rules.proofs.Counting.{eventsAt, Counts, counts-kept, counts-open}
+use Rattle.rules.proofs.Editions.{sent-keeps, received-keeps}
 use Rattle.rules.proofs.Guarded.{on-keeps}
 use Rattle.rules.proofs.History.{openH, now-run}
 use Rattle.rules.proofs.Kept.{fresh-open, calls-keep}
@@ -139,14 +139,14 @@ module _ (s : Site) (k m : ℕ) (now : s .zone k .stock ≤ m) (kept : savedStoc
   stock-step : (c : Call) → Few (stepS c s .zone k)
   stock-step (send a b cars) =
       on-keeps Few (eqb k a) (sentUnder (s .edition) cars) (s .zone k)
-      (on-keeps Few (isTraffic (s .edition) cars) (sent cars) (s .zone k) (λ h. h)) kept
+      (sent-keeps (s .edition) cars (s .zone k) Few (λ h. h)) kept
   stock-step (receive a b) = go (s .channel a b)
     where
       go : (xs : List Item) → Few (takeS a b xs s .zone k)
       go [] = kept
       go (message cars flag ∷ xs) =
           on-keeps Few (eqb k b) (receivedUnder (s .edition) a cars flag) (s .zone k)
-          (on-keeps Few (isTraffic (s .edition) cars) (received a cars flag) (s .zone k)
+          (received-keeps (s .edition) cars (s .zone k) Few a flag
           (stock-after (s .zone k .checkpoint) (saved (s .zone k)) flag m now)) kept
       go (request set ∷ xs) =
           on-keeps (λ (t : Site). Few (t .zone k)) (not (isPermanent (s .zone b .checkpoint))) (turnS b set) (popS a b s)

@@ -9,18 +9,22 @@ use native.Mathlib.Numerals.{add-one}
 use native.Mathlib.Omega.{arith}
 use lib.Dec.{eqb}
 use borrow.Author.Tests.{ne-eqb}
-use Rattle.rules.specs.Change.{on, cons-if}
+use Rattle.rules.specs.Change.{cons-if}
 use Rattle.rules.specs.Edition.{isTraffic}
-use Rattle.rules.specs.Zone.{isPermanent, sent, received, started, requested}
+use Rattle.rules.specs.Zone.{isPermanent, sentUnder, receivedUnder, started, requested}
 use Rattle.rules.specs.Site.{Item, message, request, Site, Call, send, receive, start, popS, turnS, stepS, takeS}
 use Rattle.rules.specs.Park.{Move, hand, take, owner, isInside, counted, insideFrom}
 use Rattle.rules.specs.Cut.{taking, moveOf, moves}
 use Rattle.rules.specs.declared.Local.{Local}
-use Rattle.rules.proofs.Guarded.{on-same, on-map, on-still}
+use Rattle.rules.proofs.Editions.{sent-traffic, sent-check, received-traffic, received-check}
+use Rattle.rules.proofs.Guarded.{on-same, on-map}
 use Rattle.rules.proofs.Tests.{eqb-refl}
 use Rattle.journal.specs.InnerOrdinals.{ordinalBy}
 
--- The own events of each zone.
+-- The own events of a zone, and of each zone of a site.
+abbrev events : Local → ℕ
+events z = z .events
+
 abbrev pub eventsIn : Site → ℕ → ℕ
 eventsIn s k = s .zone k .events
 
@@ -43,18 +47,18 @@ pub record Moved (c : Call) (s : Site) (m : Move) : Type 0 where
 pub sent-moves : (a b cars : ℕ) (s : Site) → Quiet (send a b cars) s ⊎ Moved (send a b cars) s (hand a b cars)
 sent-moves a b cars s = go (isTraffic (s .edition) cars) refl
   where
-    sentIf : ℕ → Bool → ℕ
-    sentIf k p = (on (eqb k a) (on p (sent cars)) (s .zone k)) .events
+    change : Local → Local
+    change = sentUnder (s .edition) cars
 
     go : (p : Bool) → isTraffic (s .edition) cars ≡ p → Quiet (send a b cars) s ⊎ Moved (send a b cars) s (hand a b cars)
-    go true e = inr (record {
-      one = ap (λ (p : Bool). cons-if p (hand a b cars) []) e;
+    go true t = inr (record {
+      one = ap (λ (p : Bool). cons-if p (hand a b cars) []) t;
       by = refl;
-      more = λ k. ap (sentIf k) e ∙ on-map (λ (z : Local). z .events) (eqb k a) (sent cars) suc (s .zone k) (add-one _);
+      more = λ k. on-map events (eqb k a) change suc (s .zone k) (ap events (sent-traffic (s .edition) cars (s .zone k) t) ∙ add-one _);
     })
-    go false e = inl (record {
-      none = ap (λ (p : Bool). cons-if p (hand a b cars) []) e;
-      same = λ k. ap (sentIf k) e ∙ ap (λ (z : Local). z .events) (on-still (eqb k a) (sent cars) (s .zone k));
+    go false t = inl (record {
+      none = ap (λ (p : Bool). cons-if p (hand a b cars) []) t;
+      same = λ k. on-same events (eqb k a) change (s .zone k) (ap events (sent-check (s .edition) cars (s .zone k) t));
     })
 
 pub start-quiet : (a : ℕ) (s : Site) → Quiet (start a) s
@@ -66,21 +70,20 @@ start-quiet a s = record {
 pub received-moves : (a b : ℕ) (s : Site) → Quiet (receive a b) s ⊎ Moved (receive a b) s (take a b)
 received-moves a b s = go (s .channel a b) refl
   where
-    gotIf : ℕ → Bool → ℕ → Bool → ℕ
-    gotIf cars flag k p = (on (eqb k b) (on p (received a cars flag)) (s .zone k)) .events
-
     got : (cars : ℕ) (flag : Bool) (xs : List Item) → s .channel a b ≡ message cars flag ∷ xs → (p : Bool) → isTraffic (s .edition) cars ≡ p
         → Quiet (receive a b) s ⊎ Moved (receive a b) s (take a b)
     got cars flag xs e true t = inr (record {
       one = ap (taking (s .edition) a b) e ∙ ap (λ (p : Bool). cons-if p (take a b) []) t;
       by = refl;
-      more = λ k. ap (λ (l : List Item). eventsIn (takeS a b l s) k) e ∙ ap (gotIf cars flag k) t
-          ∙ on-map (λ (z : Local). z .events) (eqb k b) (received a cars flag) suc (s .zone k) (add-one _);
+      more = λ k. ap (λ (l : List Item). eventsIn (takeS a b l s) k) e
+          ∙ on-map events (eqb k b) (receivedUnder (s .edition) a cars flag) suc (s .zone k)
+          (ap events (received-traffic (s .edition) cars (s .zone k) a flag t) ∙ add-one _);
     })
     got cars flag xs e false t = inl (record {
       none = ap (taking (s .edition) a b) e ∙ ap (λ (p : Bool). cons-if p (take a b) []) t;
-      same = λ k. ap (λ (l : List Item). eventsIn (takeS a b l s) k) e ∙ ap (gotIf cars flag k) t
-          ∙ ap (λ (z : Local). z .events) (on-still (eqb k b) (received a cars flag) (s .zone k));
+      same = λ k. ap (λ (l : List Item). eventsIn (takeS a b l s) k) e
+          ∙ on-same events (eqb k b) (receivedUnder (s .edition) a cars flag) (s .zone k)
+          (ap events (received-check (s .edition) cars (s .zone k) a flag t));
     })
 
     turned : (set k : ℕ) (t : Site) → eventsIn (turnS b set t) k ≡ eventsIn t k

@@ -143,7 +143,7 @@ park-checked : (a b c : ℕ) (flag : Bool) (l : List Item) (h : History) → h .
     → isTraffic (h .now .edition) c ≡ false → parkOf (popH a b h) ≡ parkOf h
 park-checked a b c flag l h e t = tagged≡ _ _ (λ k. refl)
     (λ i j. taken-channel a b c flag l h false e t i j
-    ∙ on-still (eqb i a && eqb j b) tail (messages (h .now .edition) (h .now .channel i j)))
+    ∙ on-still (eqb i a && eqb j b) (on false tail) (messages (h .now .edition) (h .now .channel i j)) refl)
 
 park-pop : (a b set : ℕ) (l : List Item) (h : History) → h .now .channel a b ≡ request set ∷ l → parkOf (popH a b h) ≡ parkOf h
 park-pop a b set l h e = tagged≡ _ _ (λ k. refl)

@@ -10,10 +10,14 @@ module _ {A : Type 0} where
   pub on-false : (p : Bool) (g : A → A) (v : A) → p ≡ false → on p g v ≡ v
   on-false p g v e = rw e
 
-  -- A change that is nowhere made.
-  pub on-still : (p : Bool) (g : A → A) (v : A) → on p (on false g) v ≡ v
-  on-still true g v = refl
-  on-still false g v = refl
+  -- A change that leaves this value, and two that agree at it.
+  pub on-still : (p : Bool) (g : A → A) (v : A) → g v ≡ v → on p g v ≡ v
+  on-still true g v e = e
+  on-still false g v e = refl
+
+  pub on-both : (p : Bool) (g h : A → A) (v : A) → g v ≡ h v → on p g v ≡ on p h v
+  on-both true g h v e = e
+  on-both false g h v e = refl
 
   -- What the change keeps, the guarded change keeps.
   pub on-keeps {κ} : (P : A → Type κ) (p : Bool) (g : A → A) (v : A) → (P v → P (g v)) → P v → P (on p g v)

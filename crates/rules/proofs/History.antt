@@ -10,13 +10,14 @@ use Rattle.rules.specs.Edition.{isTraffic}
 use Rattle.rules.specs.Opening.{Opening}
 use Rattle.rules.specs.Change.{on, join, cons-if}
 use Rattle.rules.specs.Sets.{has}
-use Rattle.rules.specs.Zone.{hasCheckpoint, isPermanent, sent, received}
-use Rattle.rules.specs.Site.{Item, message, request, Site, popS, turnS, startS, Call, send, receive, start, stepS, openS}
+use Rattle.rules.specs.Zone.{hasCheckpoint, isPermanent, sentUnder, received, receivedUnder}
+use Rattle.rules.specs.Site.{Item, message, request, Site, receiveS, popS, turnS, startS, Call, send, receive, start, stepS, openS}
 use Rattle.rules.specs.Park.{Move}
 use Rattle.rules.specs.Cut.{Allowed, run, taking, moveOf, moves}
 use Rattle.rules.specs.declared.Local.{Local}
 use Rattle.rules.proofs.Tests.{both-true}
-use Rattle.rules.proofs.Guarded.{on-same, on-still}
+use Rattle.rules.proofs.Editions.{sent-traffic, sent-check, received-traffic, received-check}
+use Rattle.rules.proofs.Guarded.{on-same, on-still, on-both}
 use Rattle.rules.proofs.Lists.{map-join}
 use Rattle.rules.proofs.Acts.{Act, handing}
 use Rattle.rules.proofs.Tagged.{Event, acting, receiving}
@@ -135,57 +136,59 @@ own-checkpoint x h k = on-same (λ (z : Local). z .checkpoint) (eqb k (x .zone))
 pub own-deps : (x : Act) (h : History) (k : ℕ) → (ownH x h) .now .zone k .deps ≡ h .now .zone k .deps
 own-deps x h k = on-same (λ (z : Local). z .deps) (eqb k (x .zone)) (acted x) (h .now .zone k) refl
 
--- A hand-over and a receipt of one, p: whether it is traffic. One that is traffic is an act, or such a receipt; one that is not is a check,
--- or takes one off.
-abbrev pub sendH : Bool → ℕ → ℕ → ℕ → History → History
-sendH p a b c h = record {
-  now = record {
-    edition = h .now .edition;
-    zone = λ k. on (eqb k a) (on p (sent c)) (h .now .zone k);
-    channel = (checkS a b c (h .now)) .channel;
-  };
-  initiator = h .initiator;
-  log = on p (join (actingOf (handing a b c) (h .now))) (h .log);
-}
+-- A hand-over that is traffic is an act, any other a check.
+module _ (a b c : ℕ) (h : History) where
+  pub send-own : isTraffic (h .now .edition) c ≡ true → stepH (send a b c) h ≡ ownH (handing a b c) h
+  send-own t = λ x. record {
+    now = record {
+      edition = h .now .edition;
+      zone = λ k. on-both (eqb k a) (sentUnder (h .now .edition) c) (acted (handing a b c)) (h .now .zone k) (sent-traffic (h .now .edition) c (h .now .zone k) t) x;
+      channel = (checkS a b c (h .now)) .channel;
+    };
+    initiator = h .initiator;
+    log = ap (λ (p : Bool). on p (join (actingOf (handing a b c) (h .now))) (h .log)) t x;
+  }
 
-abbrev pub takeH : Bool → ℕ → ℕ → ℕ → Bool → History → History
-takeH p a b c flag h = record {
-  now = record {
-    edition = h .now .edition;
-    zone = λ k. on (eqb k b) (on p (received a c flag)) (h .now .zone k);
-    channel = (popS a b (h .now)) .channel;
-  };
-  initiator = h .initiator;
-  log = on p (join (receivingOf a b c flag (h .now))) (h .log);
-}
+  pub send-check : isTraffic (h .now .edition) c ≡ false → stepH (send a b c) h ≡ checkH a b c h
+  send-check t = λ x. record {
+    now = record {
+      edition = h .now .edition;
+      zone = λ k. on-still (eqb k a) (sentUnder (h .now .edition) c) (h .now .zone k) (sent-check (h .now .edition) c (h .now .zone k) t) x;
+      channel = (checkS a b c (h .now)) .channel;
+    };
+    initiator = h .initiator;
+    log = ap (λ (p : Bool). on p (join (actingOf (handing a b c) (h .now))) (h .log)) t x;
+  }
 
-pub send-own : (a b c : ℕ) (h : History) → sendH true a b c h ≡ ownH (handing a b c) h
-send-own a b c h = refl
+  -- The receipt of one that stands first on its channel goes by the same.
+  abbrev pub takeH : Bool → History
+  takeH flag = record {
+    now = receiveS a b c flag (h .now);
+    initiator = h .initiator;
+    log = on (isTraffic (h .now .edition) c) (join (receivingOf a b c flag (h .now))) (h .log);
+  }
 
-pub send-check : (a b c : ℕ) (h : History) → sendH false a b c h ≡ checkH a b c h
-send-check a b c h = λ x. record {
-  now = record {
-    edition = h .now .edition;
-    zone = λ k. on-still (eqb k a) (sent c) (h .now .zone k) x;
-    channel = (checkS a b c (h .now)) .channel;
-  };
-  initiator = h .initiator;
-  log = h .log;
-}
+  pub take-receive : (flag : Bool) → isTraffic (h .now .edition) c ≡ true → takeH flag ≡ receiveH a b c flag h
+  take-receive flag t = λ x. record {
+    now = record {
+      edition = h .now .edition;
+      zone = λ k. on-both (eqb k b) (receivedUnder (h .now .edition) a c flag) (received a c flag) (h .now .zone k) (received-traffic (h .now .edition) c (h .now .zone k) a flag t) x;
+      channel = (popS a b (h .now)) .channel;
+    };
+    initiator = h .initiator;
+    log = ap (λ (p : Bool). on p (join (receivingOf a b c flag (h .now))) (h .log)) t x;
+  }
 
-pub take-receive : (a b c : ℕ) (flag : Bool) (h : History) → takeH true a b c flag h ≡ receiveH a b c flag h
-take-receive a b c flag h = refl
-
-pub take-check : (a b c : ℕ) (flag : Bool) (h : History) → takeH false a b c flag h ≡ popH a b h
-take-check a b c flag h = λ x. record {
-  now = record {
-    edition = h .now .edition;
-    zone = λ k. on-still (eqb k b) (received a c flag) (h .now .zone k) x;
-    channel = (popS a b (h .now)) .channel;
-  };
-  initiator = h .initiator;
-  log = h .log;
-}
+  pub take-check : (flag : Bool) → isTraffic (h .now .edition) c ≡ false → takeH flag ≡ popH a b h
+  take-check flag t = λ x. record {
+    now = record {
+      edition = h .now .edition;
+      zone = λ k. on-still (eqb k b) (receivedUnder (h .now .edition) a c flag) (h .now .zone k) (received-check (h .now .edition) c (h .now .zone k) a flag t) x;
+      channel = (popS a b (h .now)) .channel;
+    };
+    initiator = h .initiator;
+    log = ap (λ (p : Bool). on p (join (receivingOf a b c flag (h .now))) (h .log)) t x;
+  }
 
 -- The channel from i to k, where it is that from a to b.
 pub at-channel : (a b i k : ℕ) (h : History) (l : List Item) → eqb i a && eqb k b ≡ true → h .now .channel a b ≡ l

@@ -20,7 +20,7 @@ use Rattle.rules.proofs.Guarded.{on-keeps, on-true}
 use Rattle.rules.proofs.Lists.{All, all-join, all-tail}
 use Rattle.rules.proofs.Checkpoints.{has-checkpoint-after, permanent-after, permanent-made, started-requested}
 use Rattle.rules.proofs.Acts.{Act, handing}
-use Rattle.rules.proofs.History.{History, openH, NoCheckpoint, IsPermanent, ownH, own-checkpoint, receiveH, checkH, sendH, takeH, send-own, send-check, take-receive, take-check, popH, turnH, beginH, startH, logTaken, stepH, history}
+use Rattle.rules.proofs.History.{History, openH, NoCheckpoint, IsPermanent, ownH, own-checkpoint, receiveH, checkH, takeH, send-own, send-check, take-receive, take-check, popH, turnH, beginH, startH, logTaken, stepH, history}
 
 -- A message that an act puts on a channel is traffic.
 abbrev pub Carries : Act → History → Type 0
@@ -148,9 +148,9 @@ module _ {κ} (R : History → History → Type κ) (does : Does R) where
   pub call-does : (c : Call) (h : History) → Fresh h → May c (h .now) → R h (stepH c h)
   call-does (send a b c) h f may = go (isTraffic (h .now .edition) c) refl
     where
-      go : (p : Bool) → isTraffic (h .now .edition) c ≡ p → R h (sendH p a b c h)
-      go true e = subst (R h) (sym (send-own a b c h)) (does .at-own (handing a b c) h may (λ i j _. e))
-      go false e = subst (R h) (sym (send-check a b c h)) (does .at-check a b c h e)
+      go : (p : Bool) → isTraffic (h .now .edition) c ≡ p → R h (stepH (send a b c) h)
+      go true e = subst (R h) (sym (send-own a b c h e)) (does .at-own (handing a b c) h may (λ i j _. e))
+      go false e = subst (R h) (sym (send-check a b c h e)) (does .at-check a b c h e)
   call-does (receive a b) h f may = go (h .now .channel a b) refl
     where
       turn : (set : ℕ) (l : List Item) (p : Bool) → h .now .channel a b ≡ request set ∷ l
@@ -160,9 +160,9 @@ module _ {κ} (R : History → History → Type κ) (does : Does R) where
       turn set l false at e = does .at-request a b set l h at e
 
       got : (c : ℕ) (flag : Bool) (l : List Item) (p : Bool) → h .now .channel a b ≡ message c flag ∷ l
-          → isTraffic (h .now .edition) c ≡ p → R h (takeH p a b c flag h)
-      got c flag l true at e = subst (R h) (sym (take-receive a b c flag h)) (does .at-receive a b c flag l h at e)
-      got c flag l false at e = subst (R h) (sym (take-check a b c flag h)) (does .at-checked a b c flag l h at e)
+          → isTraffic (h .now .edition) c ≡ p → R h (takeH a b c h flag)
+      got c flag l true at e = subst (R h) (sym (take-receive a b c h flag e)) (does .at-receive a b c flag l h at e)
+      got c flag l false at e = subst (R h) (sym (take-check a b c h flag e)) (does .at-checked a b c flag l h at e)
 
       go : (l : List Item) → h .now .channel a b ≡ l
           → R h (record { now = takeS a b l (h .now); initiator = h .initiator; log = logTaken a b l (h .now) (h .log) })

@@ -11,7 +11,7 @@ use borrow.Author.Tests.{eqb-true}
 use Rattle.rules.specs.Opening.{Opening}
 use Rattle.rules.specs.Change.{on, join}
 use Rattle.rules.specs.Sets.{has, nobody}
-use Rattle.rules.specs.Zone.{hasCheckpoint, isPermanent, depsAfter, received, requested, targets, carried}
+use Rattle.rules.specs.Zone.{isPermanent, depsAfter, received, requested, targets, carried}
 use Rattle.rules.specs.Site.{Item, message, request, popS, waits}
 use Rattle.rules.specs.declared.Local.{Local}
 use Rattle.rules.specs.declared.Checkpoint.{Checkpoint}

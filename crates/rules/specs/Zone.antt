@@ -1,7 +1,6 @@
 -- The rules of one zone (docs/RULES.md, section 4). Zones are named by index: the number less one.
-use mathlib.Core.Bool.{Bool, true, false, cond}
+use mathlib.Core.Bool.{Bool, true, false}
 use Prim.Native.Nat.{ℕ, _+_, _-_}
-use lib.Dec.{eqb}
 use Rattle.rules.specs.Change.{on}
 use Rattle.rules.specs.Edition.{isTraffic}
 use Rattle.rules.specs.Sets.{only, union, difference}

@@ -14,7 +14,6 @@ use Rattle.run.specs.Calls.{answer}
 use Rattle.run.specs.Claims.{WholeRun}
 use Rattle.run.specs.Model.{siteOf}
 use Rattle.run.specs.declared.Run.{Run}
-use Rattle.run.specs.declared.SiteCall.{SiteCall}
 use Rattle.run.specs.declared.SiteCall.the-variants.{Send, Receive}
 use Rattle.run.proofs.Outcome.{Passed, Refused, outcome}
 use Rattle.run.proofs.Refine.{refine}

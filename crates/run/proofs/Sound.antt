@@ -14,12 +14,12 @@ use Rattle.rules.specs.Change.{on, join}
 use Rattle.rules.specs.Limits.{mostCars, places}
 use Rattle.rules.specs.Questions.{index}
 use Rattle.rules.specs.Sets.{has, nobody, only}
-use Rattle.rules.specs.Edition.{isTraffic}
-use Rattle.rules.specs.Zone.{isPermanent, sent, sentUnder, received, receivedUnder, started, requested, depsAfter, targets, carried}
+use Rattle.rules.specs.Zone.{isPermanent, sentUnder, receivedUnder, started, requested, depsAfter, targets, carried}
 use Rattle.rules.specs.Site.{Item, message, request, Site, Call, send, receive, start, popS, requestAllS, turnS, stepS, takeS}
 use Rattle.rules.specs.declared.Local.{Local}
 use Rattle.rules.specs.declared.Checkpoint.{Checkpoint}
 use Rattle.rules.specs.declared.Checkpoint.the-variants.{None, Mutable, Permanent}
+use Rattle.rules.proofs.Editions.{sent-keeps, received-keeps}
 use Rattle.rules.proofs.Guarded.{on-keeps}
 use Rattle.rules.proofs.Tests.{and-left, and-right, both-true}
 use Rattle.channel.specs.Words.{setIn}
@@ -49,7 +49,7 @@ use Rattle.run.specs.Opening.{openCall, openedRun, fallback}
 events-step : (c : Call) (s : Site) (k : ℕ) → stepS c s .zone k .events ≤ s .zone k .events + 1
 events-step (send a b cars) s k =
     on-keeps (λ (z : Local). z .events ≤ s .zone k .events + 1) (eqb k a) (sentUnder (s .edition) cars) (s .zone k)
-    (on-keeps (λ (z : Local). z .events ≤ s .zone k .events + 1) (isTraffic (s .edition) cars) (sent cars) (s .zone k) (λ h. omega arith))
+    (sent-keeps (s .edition) cars (s .zone k) (λ (z : Local). z .events ≤ s .zone k .events + 1) (λ h. omega arith))
     (omega arith)
 events-step (receive a b) s k = go (s .channel a b)
   where
@@ -60,8 +60,7 @@ events-step (receive a b) s k = go (s .channel a b)
     go [] = omega arith
     go (message cars flag ∷ xs) =
         on-keeps (λ (z : Local). z .events ≤ s .zone k .events + 1) (eqb k b) (receivedUnder (s .edition) a cars flag) (s .zone k)
-        (on-keeps (λ (z : Local). z .events ≤ s .zone k .events + 1) (isTraffic (s .edition) cars) (received a cars flag) (s .zone k)
-        (λ h. omega arith))
+        (received-keeps (s .edition) cars (s .zone k) (λ (z : Local). z .events ≤ s .zone k .events + 1) a flag (λ h. omega arith))
         (omega arith)
     go (request set ∷ xs) =
         on-keeps (λ (t : Site). t .zone k .events ≤ s .zone k .events + 1) (not (isPermanent (s .zone b .checkpoint))) (turnS b set)
@@ -79,7 +78,7 @@ received-deps n from deps (Permanent s) flag h d = d
 deps-step : (n : ℕ) (c : Call) (s : Site) (k : ℕ) → Sited n c → s .zone k .deps < 2 ^ n → stepS c s .zone k .deps < 2 ^ n
 deps-step n (send a b cars) s k p h =
     on-keeps (λ (z : Local). z .deps < 2 ^ n) (eqb k a) (sentUnder (s .edition) cars) (s .zone k)
-    (on-keeps (λ (z : Local). z .deps < 2 ^ n) (isTraffic (s .edition) cars) (sent cars) (s .zone k) (λ h. h)) h
+    (sent-keeps (s .edition) cars (s .zone k) (λ (z : Local). z .deps < 2 ^ n) (λ h. h)) h
 deps-step n (receive a b) s k p h = go (s .channel a b)
   where
     turned : (set : ℕ) (t : Site) → t .zone k .deps < 2 ^ n → turnS b set t .zone k .deps < 2 ^ n
@@ -89,7 +88,7 @@ deps-step n (receive a b) s k p h = go (s .channel a b)
     go [] = h
     go (message cars flag ∷ xs) =
         on-keeps (λ (z : Local). z .deps < 2 ^ n) (eqb k b) (receivedUnder (s .edition) a cars flag) (s .zone k)
-        (on-keeps (λ (z : Local). z .deps < 2 ^ n) (isTraffic (s .edition) cars) (received a cars flag) (s .zone k)
+        (received-keeps (s .edition) cars (s .zone k) (λ (z : Local). z .deps < 2 ^ n) a flag
         (received-deps n a (s .zone k .deps) (s .zone k .checkpoint) flag (p .from))) h
     go (request set ∷ xs) =
         on-keeps (λ (t : Site). t .zone k .deps < 2 ^ n) (not (isPermanent (s .zone b .checkpoint))) (turnS b set) (popS a b s)

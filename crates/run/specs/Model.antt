@@ -1,7 +1,6 @@
 -- A run as a site of the rules: zones and channels that the run's site does not have are those of an opening with stock 0.
 use mathlib.Core.Bool.{cond, _&&_}
-use mathlib.Core.List.{List, []}
-use Prim.Native.Nat.{ℕ}
+use mathlib.Core.List.{[]}
 use lib.Dec.{ltb}
 use Rattle.rules.specs.Limits.{mostZones}
 use Rattle.rules.specs.Site.{Site}

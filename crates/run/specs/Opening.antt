@@ -1,5 +1,4 @@
 -- Opening a site: what it is opened with is one value, from the caller's terms and stocks down to the rules' opening.
-use mathlib.Core.Bool.{Bool}
 use mathlib.Core.List.{List, [], _∷_}
 use Prim.Native.Nat.{ℕ}
 use lib.Dec.{leb, eqb}

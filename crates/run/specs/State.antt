@@ -1,7 +1,7 @@
 -- The state of a run, and question 1 in the form that hand-over, receipt and start ask.
 use mathlib.Core.Bool.{Bool, true, not, _&&_, _||_, cond}
 use mathlib.Core.List.{List, [], _∷_}
-use Prim.Native.Nat.{ℕ, _+_, _*_}
+use Prim.Native.Nat.{ℕ, _+_}
 use lib.Dec.{leb}
 use lib.ListN.{getD, set}
 use Rattle.rules.specs.Below.{allBelow, anyBelow, sumBelow}

@@ -4,12 +4,8 @@ use mathlib.Core.Path.{_≡_, refl, _∙_, ap}
 use mathlib.Core.Bool.{Bool, true, false, cond}
 use mathlib.Core.List.{List, [], _∷_}
 use Prim.Native.Nat.{ℕ, zero, suc, _≤_}
-use Rattle.rules.specs.Change.{on}
-use Rattle.rules.specs.Edition.{isTraffic}
 use Rattle.rules.specs.Questions.{Question, ask, index}
-use Rattle.rules.specs.Zone.{sent, received}
-use Rattle.rules.specs.declared.Local.{Local}
-use Rattle.rules.proofs.Editions.{check-traffic}
+use Rattle.rules.proofs.Editions.{check-traffic, sent-check, received-check}
 use Rattle.zone.specs.Zone.{localOf, withLocal, refused, sendStep, receiveStep, requestStep, startStep}
 use Rattle.zone.specs.declared.Step.{Step}
 use Rattle.zone.specs.declared.Zone.{Zone}
@@ -52,17 +48,15 @@ afterChecks (suc n) to z = sendStep (afterChecks n to z) to 0 .zone
 
 -- "it is no own event, adds nothing to a heard set, causes no mark".
 module _ (z : Zone) (from-two : 2 ≤ z .edition) where
-  -- What a change makes of the zone, where it is made for traffic alone.
-  still : (g : Local → Local) → withLocal z (on (isTraffic (z .edition) 0) g (localOf z)) ≡ z
-  still g = ap (λ (p : Bool). withLocal z (on p g (localOf z))) (check-traffic (z .edition) from-two)
-
   pub send-check : (to : ℕ) → sendStep z to 0 .zone ≡ z
   unfolding sendStep
-  send-check to = step-keeps (λ (y : Zone). y) (sendAsks z to 0) z _ (still (sent 0))
+  send-check to = step-keeps (λ (y : Zone). y) (sendAsks z to 0) z _
+      (ap (withLocal z) (sent-check (z .edition) 0 (localOf z) (check-traffic (z .edition) from-two)))
 
   pub receive-check : (from : ℕ) (flag : Bool) → receiveStep z from 0 flag .zone ≡ z
   unfolding receiveStep
-  receive-check from flag = step-keeps (λ (y : Zone). y) (receiveAsks z from 0) z _ (still (received (index from) 0 flag))
+  receive-check from flag = step-keeps (λ (y : Zone). y) (receiveAsks z from 0) z _
+      (ap (withLocal z) (received-check (z .edition) 0 (localOf z) (index from) flag (check-traffic (z .edition) from-two)))
 
   -- However many checks are sent, the zone is as it was.
   pub checks-kept : (to n : ℕ) → afterChecks n to z ≡ z
