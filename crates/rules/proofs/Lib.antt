@@ -22,3 +22,4 @@ pub mod Members
 pub mod QuestionLaws
 pub mod AskLaws
 pub mod SiteLaws
+pub mod Checks
