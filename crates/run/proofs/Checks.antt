@@ -9,7 +9,7 @@ use native.Mathlib.Omega.{arith}
 use Rattle.rules.specs.Questions.{index}
 use Rattle.rules.specs.Site.{Item, message, Site}
 use Rattle.rules.specs.declared.Local.{Local}
-use Rattle.rules.proofs.Editions as editions
+use Rattle.rules.proofs.Checks as rules
 use Rattle.run.specs.Calls.{answer}
 use Rattle.run.specs.Claims.{WholeRun}
 use Rattle.run.specs.Model.{siteOf}
@@ -28,7 +28,7 @@ module _ (r : Run) (w : WholeRun r) (from-two : 2 ≤ siteOf r .edition) (from t
       go : Passed (Send from to 0) r ⊎ Refused (Send from to 0) r → zoneK (answer (Send from to 0) r .run) ≡ zoneK r
       go (inl p) =
           ap (λ (s : Site). s .zone k) (refine (Send from to 0) r w (omega arith) (p .said) .0)
-          ∙ editions.check-sent (siteOf r) from-two (index from) (index to) k
+          ∙ rules.check-sent (siteOf r) from-two (index from) (index to) k
       go (inr p) = ap zoneK (p .kept)
 
   pub check-received : (flag : Bool) (l : List Item) → siteOf r .channel (index from) (index to) ≡ message 0 flag ∷ l
@@ -38,5 +38,5 @@ module _ (r : Run) (w : WholeRun r) (from-two : 2 ≤ siteOf r .edition) (from t
       go : Passed (Receive from to) r ⊎ Refused (Receive from to) r → zoneK (answer (Receive from to) r .run) ≡ zoneK r
       go (inl p) =
           ap (λ (s : Site). s .zone k) (refine (Receive from to) r w tt (p .said) .0)
-          ∙ editions.check-received (siteOf r) from-two (index from) (index to) k flag l first
+          ∙ rules.check-received (siteOf r) from-two (index from) (index to) k flag l first
       go (inr p) = ap zoneK (p .kept)
