@@ -1,5 +1,7 @@
 // The questions (docs/RULES.md, section 7) that several parts ask, over numbers alone.
 ghost use mathlib.Core.Path.{_≡_};
+ghost use Prim.Native.Nat.{_≤_};
+ghost use Rattle.rules.specs.Limits.{mostZones};
 ghost use Rattle.rules.specs.Questions.{isCount, isOn};
 ghost use Rattle.rules.specs.Sets.{within};
 use rules::FEWEST_ZONES;
@@ -19,12 +21,11 @@ pub fn is_on(count: u8, zone: u8) -> bool
     (1 <= zone) & (zone <= count)
 }
 
-// Whether a set names only zones of a site of `count` zones.
+// Whether a set names only zones of a site of `count` zones. Zone and scan call it behind question 2; of 8 zones it names no other, for
+// which a shift by 8 needs more than 8 bits.
 pub fn is_within(set: u8, count: u8) -> bool
+    requires { ⌜ count ≤ mostZones ⌝ }
     ensures { λ r. ⌜ r ≡ within set count ⌝ }
 {
-    if MOST_ZONES <= count {
-        return true;
-    }
-    set >> count == 0
+    (set as u16) >> count == 0
 }

@@ -27,7 +27,10 @@ sound-count z h =
     let g = and-left (p && a && b) _ (and-left _ _ (and-left _ _ h)) in
     (and-right p a (and-left (p && a) b g), and-right (p && a) b g)
 
--- The number of a sound zone, and that of another zone of its site.
+-- The count and the number of a sound zone, and the number of another zone of its site.
+pub own-count : (z : Zone) → isZoneSound z ≡ true → z .count ≤ 8
+own-count z h = count-high _ (sound-count z h .0)
+
 pub own-number : (z : Zone) → isZoneSound z ≡ true → (1 ≤ z .number) × (z .number ≤ 8)
 own-number z h = on-site _ _ (sound-count z h .0) (sound-count z h .1)
 

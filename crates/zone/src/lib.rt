@@ -121,13 +121,15 @@ impl Zone {
     fn is_sound(self) -> bool
         ensures { λ r. ⌜ r ≡ isZoneSound self ⌝ }
     {
+        if !questions::is_count(self.count) {
+            return false;
+        }
         let a = edition::is_edition(self.edition);
-        let b = questions::is_count(self.count);
-        let c = questions::is_on(self.count, self.number);
-        let d = questions::is_within(self.deps, self.count);
-        let e = self.stock <= MOST_CARS;
-        let f = self.events <= MOST_RECORDS;
-        a & b & c & d & e & f
+        let b = questions::is_on(self.count, self.number);
+        let c = questions::is_within(self.deps, self.count);
+        let d = self.stock <= MOST_CARS;
+        let e = self.events <= MOST_RECORDS;
+        a & b & c & d & e
     }
 
     fn is_other(self, zone: u8) -> bool

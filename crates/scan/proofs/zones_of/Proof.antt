@@ -39,7 +39,7 @@ zone-at-requires : tie.Need-zone-at-requires Inv-loop μ-loop
 zone-at-requires c κs = search needs
 
 zone-requires : tie.Need-zone-requires Inv-loop μ-loop
-zone-requires c κs = search needs
+zone-requires c κs = start (looped c) .pre
 
 cast-cars : tie.Need-cast-cars Inv-loop μ-loop
 cast-cars c = search needs

@@ -3,7 +3,7 @@ use mathlib.Core.Path.{_≡_}
 use mathlib.Core.Bool.{true}
 use native.Mathlib.Omega.{arith}
 use Rattle.rules.proofs.Tests.{no, yes}
-use Rattle.zone.proofs.Laws.{own-number}
+use Rattle.zone.proofs.Laws.{own-count, own-number}
 use Rattle.zone.specs.Zone.{requestStep, isZoneSound}
 use borrow.Author.Needs.{needs}
 use Rattle.zone.proofs.Zone.request.Statement.{statement}
@@ -24,7 +24,7 @@ unfolding requestStep
 returns c = rw (c .refused .ensures, no (c .before .before .is-sound .ensures) (c .before .if1 .taken))
 
 is-within-requires : tie.Need-is-within-requires
-is-within-requires c κs = search needs
+is-within-requires c κs = own-count _ (sound c)
 
 refused-requires-2 : tie.Need-refused-requires-2
 refused-requires-2 c κs = search needs
