@@ -40,26 +40,25 @@ typedef struct cut_saved {
     uint16_t events; /* the number of "own events" at that moment */
 } cut_saved;
 
-/* A "zone". 14 bytes, alignment 2; the byte behind edition is padding, so zones are compared by their fields. In every set zone k is the bit
- * of weight 2 to the power k - 1. */
+/* A "zone". 16 bytes without padding, alignment 4: it fills two registers. In every set zone k is the bit of weight 2 to the power k - 1. */
 typedef struct cut_zone {
     uint8_t number;  /* the "zone number", from 1 */
     uint8_t count;   /* the "zone count" of its site */
     uint8_t deps;    /* the dependency set ("heard set"): the zone and those that it received messages from before its checkpoint */
-    uint8_t mark;    /* the kind of its checkpoint ("mark: none, provisional or firm"), an enum cut_mark_kind */
+    uint8_t edition; /* the "edition" that its opening named */
     uint16_t stock;  /* the "stock": the cars in the zone */
     uint16_t events; /* the "own events": messages ("hand-overs") sent and received, in edition 2 those with cars */
     cut_saved saved; /* what the checkpoint keeps; with CUT_MARK_NONE it means nothing, and an accepted step writes it as 0 */
-    uint8_t edition; /* the "edition" that its opening named */
+    uint32_t mark;   /* the kind of its checkpoint ("mark: none, provisional or firm"), an enum cut_mark_kind */
 } cut_zone;
 
-/* What opening answers. 16 bytes, alignment 2. */
+/* What opening answers. 20 bytes, alignment 4. */
 typedef struct cut_opening {
     cut_zone zone;   /* the zone as opened; refused, zone 1 of 2 with stock 0, edition 1 */
     uint8_t refusal; /* the "refusal", an enum cut_refusal */
 } cut_opening;
 
-/* What a step answers. 18 bytes, alignment 2. */
+/* What a step answers. 20 bytes, alignment 4. */
 typedef struct cut_step {
     cut_zone zone;   /* the next zone; refused, the one that was passed */
     uint8_t refusal; /* the "refusal", an enum cut_refusal */
@@ -68,11 +67,11 @@ typedef struct cut_step {
     uint8_t carried; /* "the set these carry": of each of these requests; 0 where none is sent */
 } cut_step;
 
-CUT_STATIC_ASSERT(sizeof(cut_saved) == 4 && sizeof(cut_zone) == 14, "the layout that the library has");
-CUT_STATIC_ASSERT(sizeof(cut_opening) == 16 && sizeof(cut_step) == 18, "the layout that the library has");
-CUT_STATIC_ASSERT(CUT_ALIGNOF(cut_zone) == 2 && CUT_ALIGNOF(cut_step) == 2, "the layout that the library has");
-CUT_STATIC_ASSERT(offsetof(cut_zone, saved) == 8 && offsetof(cut_zone, edition) == 12, "the layout that the library has");
-CUT_STATIC_ASSERT(offsetof(cut_opening, refusal) == 14 && offsetof(cut_step, carried) == 17, "the layout that the library has");
+CUT_STATIC_ASSERT(sizeof(cut_saved) == 4 && sizeof(cut_zone) == 16, "the layout that the library has");
+CUT_STATIC_ASSERT(sizeof(cut_opening) == 20 && sizeof(cut_step) == 20, "the layout that the library has");
+CUT_STATIC_ASSERT(CUT_ALIGNOF(cut_zone) == 4 && CUT_ALIGNOF(cut_step) == 4, "the layout that the library has");
+CUT_STATIC_ASSERT(offsetof(cut_zone, edition) == 3 && offsetof(cut_zone, saved) == 8 && offsetof(cut_zone, mark) == 12, "the layout that the library has");
+CUT_STATIC_ASSERT(offsetof(cut_opening, refusal) == 16 && offsetof(cut_step, carried) == 19, "the layout that the library has");
 
 /* Opens zone `number` of `count` under an edition ("opening one zone"). Refused with: 15 the edition is not 1 or 2; 2 the count is not 2 to 8;
  * 5 the number is not 1 to count. Stack: CUT_ZONE_STACK. */

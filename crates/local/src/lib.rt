@@ -67,11 +67,9 @@ pub fn send(mut z: Local, edition: u8, cars: u8) -> Local
     requires { ⌜ (cars ≤ z .stock) × (z .events < mostRecords) ⌝ }
     ensures { λ r. ⌜ r ≡ sentUnder edition cars z ⌝ }
 {
-    if !edition::is_traffic(edition, cars) {
-        return z;
-    }
+    let traffic = edition::is_traffic(edition, cars);
     z.stock = z.stock - cars as u16;
-    z.events = z.events + 1;
+    z.events = z.events + traffic as u16;
     z
 }
 
@@ -111,20 +109,18 @@ pub fn receive(z: Local, edition: u8, from: u8, cars: u8, flag: bool) -> Local
     requires { ⌜ (from < mostZones) × (z .stock + cars ≤ mostCars) × (z .events < mostRecords) ⌝ }
     ensures { λ r. ⌜ r ≡ receivedUnder edition from cars flag z ⌝ }
 {
-    if !edition::is_traffic(edition, cars) {
-        return z;
-    }
+    let traffic = edition::is_traffic(edition, cars);
     let stock = z.stock + cars as u16;
-    let events = z.events + 1;
+    let events = z.events + traffic as u16;
     let earlier = z.checkpoint;
-    let deps = deps_after(earlier, z.deps, from, flag);
+    let deps = deps_after(earlier, z.deps, from, flag | !traffic);
     let checkpoint = checkpoint_after(
         earlier,
         Saved {
             stock: z.stock,
             events: z.events,
         },
-        flag,
+        flag & traffic,
     );
     Local {
         stock,

@@ -30,17 +30,18 @@ pub struct PlainSaved {
     pub events: u16,
 }
 
-// A zone as C keeps it; mark is 0 (none), 1 (provisional) or 2 (firm), and with 0 the saved values mean nothing.
+// A zone as C keeps it; mark is 0 (none), 1 (provisional) or 2 (firm), and with 0 the saved values mean nothing. The mark has 32 bits, as an
+// enum of C has, so that a zone fills two registers.
 #[repr(C)]
 pub struct PlainZone {
     pub number: u8,
     pub count: u8,
     pub deps: u8,
-    pub mark: u8,
+    pub edition: u8,
     pub stock: u16,
     pub events: u16,
     pub saved: PlainSaved,
-    pub edition: u8,
+    pub mark: u32,
 }
 
 // What opening answers.
@@ -61,7 +62,7 @@ pub struct PlainStep {
 }
 
 // The mark of a kind that is 0, 1 or 2; a higher kind is asked about before.
-pub fn mark_of(kind: u8, saved: PlainSaved) -> Checkpoint
+pub fn mark_of(kind: u32, saved: PlainSaved) -> Checkpoint
     ensures { λ r. ⌜ r ≡ markOf kind saved ⌝ }
 {
     if kind == 0 {
@@ -128,17 +129,17 @@ fn plain_of(z: Zone) -> PlainZone
     ensures { λ r. ⌜ r ≡ plainOf z ⌝ }
 {
     let checkpoint = z.checkpoint;
-    let kind = kind_of(checkpoint);
+    let mark = kind_of(checkpoint) as u32;
     let saved = saved_of(checkpoint);
     PlainZone {
         number: z.number,
         count: z.count,
         deps: z.deps,
-        mark: kind,
+        edition: z.edition,
         stock: z.stock,
         events: z.events,
         saved,
-        edition: z.edition,
+        mark,
     }
 }
 

@@ -15,11 +15,11 @@ pub struct PlainZone {
     pub number: u8,
     pub count: u8,
     pub deps: u8,
-    pub mark: u8,
+    pub edition: u8,
     pub stock: u16,
     pub events: u16,
     pub saved: PlainSaved,
-    pub edition: u8,
+    pub mark: u32,
 }
 
 #[repr(C)]
@@ -126,9 +126,9 @@ pub struct PlainWritten {
 }
 
 // The sizes and offsets that a C compiler gives the structs of the headers.
-const _: () = assert!(size_of::<PlainZone>() == 14);
-const _: () = assert!(size_of::<PlainOpening>() == 16);
-const _: () = assert!(size_of::<PlainStep>() == 18);
+const _: () = assert!(size_of::<PlainZone>() == 16);
+const _: () = assert!(size_of::<PlainOpening>() == 20);
+const _: () = assert!(size_of::<PlainStep>() == 20);
 const _: () = assert!(size_of::<PlainLocal>() == 10);
 const _: () = assert!(size_of::<PlainRun>() == 4_212);
 const _: () = assert!(size_of::<PlainHead>() == 100);
@@ -136,7 +136,7 @@ const _: () = assert!(size_of::<PlainHeadAnswer>() == 102);
 const _: () = assert!(size_of::<PlainAnswer>() == 4_214);
 const _: () = assert!(size_of::<PlainReading>() == 4_232);
 const _: () = assert!(size_of::<PlainWritten>() == 24);
-const _: () = assert!(offset_of!(PlainZone, edition) == 12);
+const _: () = assert!(offset_of!(PlainZone, mark) == 12);
 const _: () = assert!(offset_of!(PlainRun, edition) == 1);
 const _: () = assert!(offset_of!(PlainRun, items) == 100);
 const _: () = assert!(offset_of!(PlainRun, journal) == 2_212);

@@ -45,9 +45,9 @@ static uint64_t add_saved(uint64_t sum, cut_saved saved)
 static uint64_t add_zone(uint64_t sum, const cut_zone *zone)
 {
     sum = add(add(sum, zone->number), zone->count);
-    sum = add(add(sum, zone->deps), zone->mark);
+    sum = add(add(sum, zone->deps), zone->edition);
     sum = add_saved(add(add(sum, zone->stock), zone->events), zone->saved);
-    return add(sum, zone->edition);
+    return add(sum, zone->mark);
 }
 
 uint64_t header_opening_sum(const cut_opening *opening)

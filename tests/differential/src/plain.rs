@@ -50,7 +50,7 @@ fn byte(number: u32) -> u8 {
     u8::try_from(number).expect("a number of an accepted answer fits 8 bits")
 }
 
-fn mark_of(kind: u8, saved: PlainSaved) -> Option<Mark> {
+fn mark_of(kind: u32, saved: PlainSaved) -> Option<Mark> {
     let saved = Saved {
         stock: u32::from(saved.stock),
         events: u32::from(saved.events),
@@ -80,7 +80,7 @@ fn local_of(p: &PlainLocal) -> Option<Body> {
         stock: u32::from(p.stock),
         events: u32::from(p.events),
         heard: p.deps,
-        mark: mark_of(p.mark, p.saved)?,
+        mark: mark_of(u32::from(p.mark), p.saved)?,
     })
 }
 
@@ -97,18 +97,16 @@ fn plain_local(body: &Body) -> PlainLocal {
 
 /// A zone of the zone part, or nothing for a mark kind above 2, which is unsound.
 pub fn zone_of(p: &PlainZone) -> Option<Zone> {
-    let local = PlainLocal {
-        stock: p.stock,
-        events: p.events,
-        deps: p.deps,
-        mark: p.mark,
-        saved: p.saved,
-    };
     Some(Zone {
         edition: u32::from(p.edition),
         number: u32::from(p.number),
         count: u32::from(p.count),
-        body: local_of(&local)?,
+        body: Body {
+            stock: u32::from(p.stock),
+            events: u32::from(p.events),
+            heard: p.deps,
+            mark: mark_of(p.mark, p.saved)?,
+        },
     })
 }
 
@@ -118,11 +116,11 @@ pub fn plain_zone(zone: &Zone) -> PlainZone {
         number: byte(zone.number),
         count: byte(zone.count),
         deps: local.deps,
-        mark: local.mark,
+        edition: byte(zone.edition),
         stock: local.stock,
         events: local.events,
         saved: local.saved,
-        edition: byte(zone.edition),
+        mark: u32::from(local.mark),
     }
 }
 

@@ -175,10 +175,7 @@ fn any_zone(random: &mut Random) -> PlainZone {
             0 => byte(random),
             _ => byte(random) & everybody,
         },
-        mark: match random.below(10) {
-            0 => byte(random),
-            _ => random.within(0, 2) as u8,
-        },
+        edition: any_edition(random),
         stock: edged(random, 65_535),
         events: match random.below(3) {
             0 => edged(random, 1_000),
@@ -188,7 +185,20 @@ fn any_zone(random: &mut Random) -> PlainZone {
             stock: random.within(0, 65_535) as u16,
             events: random.within(0, 65_535) as u16,
         },
-        edition: any_edition(random),
+        mark: match random.below(10) {
+            0 => any_mark(random),
+            _ => random.within(0, 2),
+        },
+    }
+}
+
+/// Any number in the place of a mark kind; some are a kind but for one of their upper bytes.
+fn any_mark(random: &mut Random) -> u32 {
+    let low = u32::from(byte(random));
+    match random.below(3) {
+        0 => low,
+        1 => low % 3 + (1 << random.within(8, 31)),
+        _ => low << random.within(0, 24),
     }
 }
 
@@ -284,7 +294,7 @@ pub fn every(counts: &mut Counts, random: &mut Random) -> Result<(), Failure> {
             open(counts, first, second, near(random), stock)?;
             open(counts, first, near(random), second, stock)?;
             let (mut p, mut q) = (any_zone(random), any_zone(random));
-            p.mark = first;
+            p.mark = u32::from(first);
             q.edition = first;
             for p in [p, q] {
                 let made = Step::Receive {

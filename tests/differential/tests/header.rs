@@ -19,11 +19,11 @@ fn add_saved(sum: u64, saved: PlainSaved) -> u64 {
 }
 
 fn add_zone(sum: u64, zone: &PlainZone) -> u64 {
-    let sum = [zone.number, zone.count, zone.deps, zone.mark]
+    let sum = [zone.number, zone.count, zone.deps, zone.edition]
         .into_iter()
         .fold(sum, add);
     let sum = add_saved(add(add(sum, zone.stock), zone.events), zone.saved);
-    add(sum, zone.edition)
+    add(sum, zone.mark)
 }
 
 fn add_head(sum: u64, run: &PlainRun) -> u64 {
@@ -61,11 +61,11 @@ fn zone(random: &mut Random) -> PlainZone {
         number: byte(random),
         count: byte(random),
         deps: byte(random),
-        mark: byte(random),
+        edition: byte(random),
         stock: word(random),
         events: word(random),
         saved: saved(random),
-        edition: byte(random),
+        mark: u32::from(word(random)) << 16 | u32::from(word(random)),
     }
 }
 

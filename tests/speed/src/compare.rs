@@ -161,14 +161,14 @@ fn any_zone(random: &mut Random) -> Zone {
         number: near(random),
         count: near(random),
         deps: byte(random),
-        mark: byte(random) % 4,
+        edition: any_edition(random),
         stock: edged(random, 65_535),
         events: edged(random, 1_000),
         saved: Saved {
             stock: word(random),
             events: word(random),
         },
-        edition: any_edition(random),
+        mark: u32::from(byte(random) % 4),
     };
     if random.chance(90) {
         zone.count = random.within(2, 8) as u8;
@@ -179,7 +179,7 @@ fn any_zone(random: &mut Random) -> Zone {
         zone.deps &= ((1_u32 << zone.count.min(8)) - 1) as u8;
     }
     if random.chance(10) {
-        zone.mark = byte(random);
+        zone.mark = u32::from(byte(random)) << random.within(0, 24);
     }
     zone
 }

@@ -18,11 +18,11 @@ pub struct Zone {
     pub number: u8,
     pub count: u8,
     pub deps: u8,
-    pub mark: u8,
+    pub edition: u8,
     pub stock: u16,
     pub events: u16,
     pub saved: Saved,
-    pub edition: u8,
+    pub mark: u32,
 }
 
 /// What a step answers beside the zone: the marked bit of a hand-over, the zones to be sent a request
