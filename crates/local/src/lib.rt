@@ -67,9 +67,11 @@ pub fn send(mut z: Local, edition: u8, cars: u8) -> Local
     requires { ⌜ (cars ≤ z .stock) × (z .events < mostRecords) ⌝ }
     ensures { λ r. ⌜ r ≡ sentUnder edition cars z ⌝ }
 {
-    let traffic = edition::is_traffic(edition, cars);
+    if !edition::is_traffic(edition, cars) {
+        return z;
+    }
     z.stock = z.stock - cars as u16;
-    z.events = z.events + traffic as u16;
+    z.events = z.events + 1;
     z
 }
 
@@ -109,18 +111,20 @@ pub fn receive(z: Local, edition: u8, from: u8, cars: u8, flag: bool) -> Local
     requires { ⌜ (from < mostZones) × (z .stock + cars ≤ mostCars) × (z .events < mostRecords) ⌝ }
     ensures { λ r. ⌜ r ≡ receivedUnder edition from cars flag z ⌝ }
 {
-    let traffic = edition::is_traffic(edition, cars);
+    if !edition::is_traffic(edition, cars) {
+        return z;
+    }
     let stock = z.stock + cars as u16;
-    let events = z.events + traffic as u16;
+    let events = z.events + 1;
     let earlier = z.checkpoint;
-    let deps = deps_after(earlier, z.deps, from, flag | !traffic);
+    let deps = deps_after(earlier, z.deps, from, flag);
     let checkpoint = checkpoint_after(
         earlier,
         Saved {
             stock: z.stock,
             events: z.events,
         },
-        flag & traffic,
+        flag,
     );
     Local {
         stock,

@@ -1,6 +1,7 @@
--- `local::send` meets its contract.
-use native.Mathlib.Omega.{arith}
-use Rattle.local.proofs.Laws.{byte-low, sent-by}
+-- `local::send` meets its contract: a line check leaves the zone as it is.
+use mathlib.Core.Path.{sym}
+use Rattle.rules.proofs.Tests.{no, yes}
+use Rattle.rules.proofs.Guarded.{on-true, on-false}
 use borrow.Author.Needs.{needs}
 use Rattle.local.proofs.send.Statement.{statement}
 use Rattle.local.proofs.send.Tie as tie
@@ -8,17 +9,17 @@ use Rattle.local.proofs.send.Tie as tie
 is-traffic-requires : tie.Need-is-traffic-requires
 is-traffic-requires c κs = search needs
 
+returns : tie.Need-returns
+returns c = sym (on-false _ _ _ (no (c .before .is-traffic .ensures) (c .if1 .taken)))
+
 sub-z : tie.Need-sub-z
 sub-z c = search needs
 
-cast-z : tie.Need-cast-z
-cast-z c = search needs
-
 add-z : tie.Need-add-z
-add-z c = record { fits = omega (arith, byte-low (c .before .before .is-traffic .result), c .before .before .before .pre .1) }
+add-z c = search needs
 
-returns : tie.Need-returns
-returns c = sent-by _ _ _ _ (c .before .before .is-traffic .ensures)
+returns-2 : tie.Need-returns-2
+returns-2 c = sym (on-true _ _ _ (yes (c .before .before .before .is-traffic .ensures) (c .before .before .if1 .left)))
 
 pub send-spec : {M : Type 1} → statement M
-send-spec = tie.close (tie.spec is-traffic-requires sub-z cast-z add-z returns)
+send-spec = tie.close (tie.spec is-traffic-requires returns sub-z add-z returns-2)
