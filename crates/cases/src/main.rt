@@ -20,7 +20,7 @@ fn fill(space: &mut [u8], n: usize) -> bool
     m == n
 }
 
-// One journal and its line; whether there was one. The longest stored journal has 3,045 bytes.
+// One journal and its line; whether there was one. The longest stored journal has 2,774 bytes.
 fn one() -> bool {
     let mut head = [0u8; 2];
     if !fill(&mut head, 2) {
