@@ -13,6 +13,7 @@ use Rattle.rules.specs.Limits.{mostRecords}
 use Rattle.rules.specs.Questions.{Question, question, ask, index, Among}
 use Rattle.rules.specs.Zone.{hasCheckpoint, sentUnder}
 use Rattle.rules.specs.declared.Local.{Local}
+use Rattle.rules.proofs.Members.{members-zero}
 use Rattle.rules.proofs.AskLaws.{AllYes, numbers, not-among, ask-cases, ask-both}
 use Rattle.channel.specs.Words.{itemOf, carsIn, setIn, messageWord}
 use Rattle.channel.specs.Channels.{channelsAs, isChannel, channelIndex, lenOf, pushed, popped, firstOf, firstFull, allFree, requestedAll}
@@ -104,6 +105,15 @@ module _ (l : Channels) (from to full : ℕ) (e : full ≡ firstFull l from to) 
   pub none-full : full ≡ 0 → allFree l from to ≡ true
   none-full h = sym (all-free-none l from to) ∙ eq-eqb _ _ (sym e ∙ h)
 
+-- No request: no channel is asked, and none changes.
+none-asked : (l : Channels) (from to : ℕ) → to ≡ 0 → 0 ≡ firstFull l from to
+unfolding firstFull
+none-asked l from to h = rw (h, members-zero)
+
+none-requested : (l : Channels) (from to set : ℕ) → to ≡ 0 → l ≡ requestedAll l from to set
+unfolding requestedAll
+none-requested l from to set h = rw (h, members-zero)
+
 module _ (terms : Terms) (from to : ℕ) (z : Local) (l : Channels) (started : Bool) (k : ℕ) (e : k ≡ channelIndex (index from) (index to)) where
   pub receive-9 : (o : Effect) → o ≡ unchanged 9 z → lenOf l k ≡ 0
       → record { effect = o; channels = l } ≡ ownEffect (Receive from to) terms z l started
@@ -132,6 +142,13 @@ module _ (terms : Terms) (from to : ℕ) (z : Local) (l : Channels) (started : B
         → record { effect = record { refusal = 0; zone = got .local }; channels = after } ≡ ownEffect (Receive from to) terms z l started
     unfolding ownEffect
     receive-0 popping after h p q = rw (q, p, takes, e, ne-eqb _ _ here, targets-free true (none-full l (index to) (got .to) full search h))
+
+  -- The same where no request is sent.
+  pub receive-quiet : lenOf l k ≢ 0 → (got : Requesting) → got ≡ itemReceived (terms .edition) (index from) (index to) (itemOf (firstOf l k)) z → got .to ≡ 0
+      → (popping : Channels) → popping ≡ popped l k
+      → record { effect = record { refusal = 0; zone = got .local }; channels = popping } ≡ ownEffect (Receive from to) terms z l started
+  receive-quiet holds got takes h popping p =
+      receive-0 holds got takes 0 (none-asked l (index to) (got .to) h) popping popping refl p (none-requested popping (index to) (got .to) (got .carried) h)
 
 module _ (terms : Terms) (zone : ℕ) (z : Local) (l : Channels) (started : Bool) where
   pub start-11 : (o : Effect) → o ≡ unchanged 11 z → started ≡ true

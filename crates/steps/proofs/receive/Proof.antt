@@ -11,13 +11,13 @@ use Rattle.run.specs.declared.SiteCall.{SiteCall}
 use Rattle.run.specs.declared.SiteCall.the-variants.{Receive}
 use Rattle.run.proofs.Outcome.{pair, pair-low}
 use Rattle.steps.specs.InnerReady.{Fits}
-use Rattle.steps.proofs.Laws.{ready-fits, effect-5, effect-6, behind-6, receive-9, receive-10, receive-0}
+use Rattle.steps.proofs.Laws.{ready-fits, effect-5, effect-6, behind-6, receive-9, receive-10, receive-0, receive-quiet}
 use borrow.Author.Needs.{needs}
 use Rattle.steps.proofs.receive.Statement.{statement}
 use Rattle.steps.proofs.receive.Tie as tie
 
--- Landmarks: 5 answered yes; 6; the channel's index found; 9 answered yes; the item looked at, then taken; the search made; 10 answered
--- yes; the item off.
+-- Landmarks: 5 answered yes; 6; the channel's index found; 9 answered yes; the item looked at, then taken; requests to send; the search
+-- made; 10 answered yes; the item off.
 abbrev start : tie.Else1 → tie.Start
 start c = c .before .before
 
@@ -33,16 +33,19 @@ indexed c = c .before .before
 abbrev held : tie.After-take → tie.Else3
 held c = c .before .before
 
-abbrev taken : tie.After-first-full → tie.After-take
+abbrev taken : tie.Else4 → tie.After-take
 taken c = c .before .before
 
-abbrev searched : tie.Else4 → tie.After-first-full
+abbrev asking : tie.After-first-full → tie.Else4
+asking c = c .before .before
+
+abbrev searched : tie.Else5 → tie.After-first-full
 searched c = c .before
 
-abbrev free : tie.After-pop → tie.Else4
+abbrev free : tie.After-pop2 → tie.Else5
 free c = c .before .before .before
 
-abbrev off : tie.After-request-all → tie.After-pop
+abbrev off : tie.After-request-all → tie.After-pop2
 off c = c .before .before .before
 
 -- The call, and what 5 and 6 leave: its zones are named, and there is room for what it takes.
@@ -127,49 +130,63 @@ take-requires c κs =
     let room = f .2 (pos _ (subst (λ (n : ℕ). lenOf l n ≢ 0) e (h .if3 .left))) in
     rw e (q .from, q .to, f .1, room .0, room .1)
 
+pop-requires : tie.Need-pop-requires
+pop-requires c κs = search needs
+
+returns-4 : tie.Need-returns-4
+returns-4 c = λ started.
+    let q = c .before .before .before .before in
+    let t = q .before .before in
+    let h = held t in
+    let p = indexed h in
+    let r = roomy p in
+    let n = named r in
+    receive-quiet _ _ _ _ _ started _ (p .channel-index .ensures .0) (h .if3 .left) _ (t .take .ensures) (q .if4 .taken) _ (c .before .pop .ensures .1)
+    ∙ behind-6 (told (start n)) _ _ _ _ started (is-named n) (r .if2 .left)
+
 cast-first-full : tie.Need-cast-first-full
 cast-first-full c = search needs
 
 first-full-requires : tie.Need-first-full-requires
-first-full-requires c κs = pair 8 _ _ (fits (roomy (indexed (held (c .before)))) .0) .to
+first-full-requires c κs = pair 8 _ _ (fits (roomy (indexed (held (taken (c .before))))) .0) .to
 
 no-effect-requires-4 : tie.Need-no-effect-requires-4
 no-effect-requires-4 c κs = search needs
 
-returns-4 : tie.Need-returns-4
-returns-4 c = λ started.
+returns-5 : tie.Need-returns-5
+returns-5 c = λ started.
     let f = c .before .before in
-    let t = taken f in
+    let t = taken (asking f) in
     let h = held t in
     let p = indexed h in
     let r = roomy p in
     let n = named r in
     receive-10 _ _ _ _ _ started _ (p .channel-index .ensures .0) (h .if3 .left) _ (t .take .ensures) _ (f .first-full .ensures _) _
-    (c .no-effect4 .ensures) (c .before .if4 .taken)
+    (c .no-effect4 .ensures) (c .before .if5 .taken)
     ∙ behind-6 (told (start n)) _ _ _ _ started (is-named n) (r .if2 .left)
 
-pop-requires : tie.Need-pop-requires
-pop-requires c κs = search needs
+pop-requires-2 : tie.Need-pop-requires-2
+pop-requires-2 c κs = search needs
 
 cast-request-all : tie.Need-cast-request-all
 cast-request-all c = search needs
 
 request-all-requires : tie.Need-request-all-requires
-request-all-requires c κs = pair 8 _ _ (fits (roomy (indexed (held (taken (searched (free (c .before .before))))))) .0) .to
+request-all-requires c κs = pair 8 _ _ (fits (roomy (indexed (held (taken (asking (searched (free (c .before .before)))))))) .0) .to
 
-returns-5 : tie.Need-returns-5
-returns-5 c = λ started.
+returns-6 : tie.Need-returns-6
+returns-6 c = λ started.
     let d = c .before in
     let o = off d in
     let i = free o in
     let f = searched i in
-    let t = taken f in
+    let t = taken (asking f) in
     let h = held t in
     let p = indexed h in
     let r = roomy p in
     let n = named r in
     receive-0 _ _ _ _ _ started _ (p .channel-index .ensures .0) (h .if3 .left) _ (t .take .ensures) _ (f .first-full .ensures _) _ _
-    (i .if4 .left) (o .pop .ensures .1) (d .request-all .ensures)
+    (i .if5 .left) (o .pop2 .ensures .1) (d .request-all .ensures)
     ∙ behind-6 (told (start n)) _ _ _ _ started (is-named n) (r .if2 .left)
 
 pub receive-spec : {M : Type 1} → statement M
@@ -193,11 +210,13 @@ receive-spec =
     mul-word-2
     element-copy-out-word
     take-requires
+    pop-requires
+    returns-4
     cast-first-full
     first-full-requires
     no-effect-requires-4
-    returns-4
-    pop-requires
+    returns-5
+    pop-requires-2
     cast-request-all
     request-all-requires
-    returns-5)
+    returns-6)
