@@ -64,7 +64,8 @@ extern "C" {
 typedef struct cut_local {
     uint16_t stock;  /* the "stock": the cars in the zone */
     uint16_t events; /* the "own events": messages ("hand-overs") sent and received, in edition 2 those with cars */
-    uint8_t deps;    /* the dependency set ("heard set"): the zone and those that it received messages from before its checkpoint */
+    uint8_t deps;    /* the dependency set ("heard set"): the zone and those that it received messages from before its checkpoint, in
+                        edition 2 messages with cars */
     uint8_t mark;    /* the kind of its checkpoint ("mark: none, provisional or firm"), an enum cut_mark_kind */
     cut_saved saved; /* what the checkpoint keeps; with CUT_MARK_NONE it means nothing, and an accepted call writes it as 0 */
 } cut_local;

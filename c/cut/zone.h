@@ -44,7 +44,8 @@ typedef struct cut_saved {
 typedef struct cut_zone {
     uint8_t number;  /* the "zone number", from 1 */
     uint8_t count;   /* the "zone count" of its site */
-    uint8_t deps;    /* the dependency set ("heard set"): the zone and those that it received messages from before its checkpoint */
+    uint8_t deps;    /* the dependency set ("heard set"): the zone and those that it received messages from before its checkpoint, in
+                        edition 2 messages with cars */
     uint8_t edition; /* the "edition" that its opening named */
     uint16_t stock;  /* the "stock": the cars in the zone */
     uint16_t events; /* the "own events": messages ("hand-overs") sent and received, in edition 2 those with cars */
@@ -70,7 +71,8 @@ typedef struct cut_step {
 CUT_STATIC_ASSERT(sizeof(cut_saved) == 4 && sizeof(cut_zone) == 16, "the layout that the library has");
 CUT_STATIC_ASSERT(sizeof(cut_opening) == 20 && sizeof(cut_step) == 20, "the layout that the library has");
 CUT_STATIC_ASSERT(CUT_ALIGNOF(cut_zone) == 4 && CUT_ALIGNOF(cut_step) == 4, "the layout that the library has");
-CUT_STATIC_ASSERT(offsetof(cut_zone, edition) == 3 && offsetof(cut_zone, saved) == 8 && offsetof(cut_zone, mark) == 12, "the layout that the library has");
+CUT_STATIC_ASSERT(offsetof(cut_zone, edition) == 3 && offsetof(cut_zone, saved) == 8 && offsetof(cut_zone, mark) == 12,
+                  "the layout that the library has");
 CUT_STATIC_ASSERT(offsetof(cut_opening, refusal) == 16 && offsetof(cut_step, carried) == 19, "the layout that the library has");
 
 /* Opens zone `number` of `count` under an edition ("opening one zone"). Refused with: 15 the edition is not 1 or 2; 2 the count is not 2 to 8;

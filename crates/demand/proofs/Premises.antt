@@ -78,23 +78,23 @@ pub case-a : Cut (openingOf openingA) (acceptedCalls callsA (openCall openingA .
     (shownIn (take (recordedBy openingA callsA 16 .answer .written) (recordedBy openingA callsA 16 .bytes)))
 case-a = recorded-cut openingA callsA 16 typedA openedA answeredA
 
--- The same stocks in edition 2. Zone 1, which depends on zone 2, starts, and sends zone 3 a line check with the flag; zone 3 takes it, and
+-- The same stocks in edition 2. Zone 3 sends zone 1 a line check that stays on its line. Zone 1, which depends on zone 2, starts, and sends zone 3 a line check with the flag; zone 3 takes it, and
 -- hands cars to zone 2, which takes them before the request of zone 1. So zone 3 is recorded too, with the event before the request.
 abbrev pub openingCheck : Opening
 openingCheck = openingAs (termsAs 2 3) (10 ∷ 20 ∷ 30 ∷ [])
 
 abbrev pub callsCheck : List SiteCall
 callsCheck =
-    Send 2 1 4 ∷ Receive 2 1 ∷ Start 1 ∷ Send 1 3 0 ∷ Receive 1 3 ∷ Send 3 2 5 ∷ Receive 3 2 ∷ Receive 1 2 ∷ Receive 2 3 ∷ []
+    Send 3 1 0 ∷ Send 2 1 4 ∷ Receive 2 1 ∷ Start 1 ∷ Send 1 3 0 ∷ Receive 1 3 ∷ Send 3 2 5 ∷ Receive 3 2 ∷ Receive 1 2 ∷ Receive 2 3 ∷ []
 
 typedCheck : AllTyped callsCheck
-typedCheck = (omega arith, (tt, (tt, (omega arith, (tt, (omega arith, (tt, (tt, (tt, tt)))))))))
+typedCheck = (omega arith, (omega arith, (tt, (tt, (omega arith, (tt, (omega arith, (tt, (tt, (tt, tt))))))))))
 
 openedCheck : openCall openingCheck .refusal ≡ 0
 unfolding openCall isEdition isCount
 openedCheck = refl
 
--- "48 00 80 01 00 0E 80 02 00 15 80 01 00 19".
+-- "48 00 80 01 00 0E 80 02 00 15 80 01 00 19": no check is shown.
 shownCheck : recordedBy openingCheck callsCheck 14
     ≡ record {
       answer = record { refusal = 0; written = 14 };

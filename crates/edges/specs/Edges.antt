@@ -1,5 +1,5 @@
 -- The worked edges (docs/RULES.md, section 8) in one table, those of editions in the file beside this one. A run that a row begins with is
--- opened or reached in an earlier row, but for those of `states`. Numbers with 0x are hexadecimal, as in the layouts.
+-- opened or reached in an earlier row, but for those of `states` and those of an edition that is not defined. Numbers with 0x are hexadecimal, as in the layouts.
 use mathlib.Core.Bool.{true, false}
 use mathlib.Core.List.{List, [], _∷_, _++_, map}
 use Prim.Native.Nat.{ℕ, _+_}

@@ -117,7 +117,7 @@ thousandRecords = pairIn 2 (zone 5 1 0 None ∷ zone 7 2 0 None ∷ []) [] (time
 
 abbrev pub manyChecks : List Row
 manyChecks =
-    -- The 16th check has a place, the 17th none; a start that must send no request there is accepted.
+    -- The 16th check has a place, the 17th none; 7 is asked before 8.
     gives checkable (replicate 15 (Send 1 2 0)) (Send 1 2 0) 0 sixteenChecks
     ∷ gives sixteenChecks [] (Send 1 2 0) 8 sixteenChecks
     ∷ gives sixteenChecks [] (Send 1 2 11) 7 sixteenChecks

@@ -21,8 +21,8 @@ pub fn is_on(count: u8, zone: u8) -> bool
     (1 <= zone) & (zone <= count)
 }
 
-// Whether a set names only zones of a site of `count` zones. Zone and scan call it behind question 2; of 8 zones it names no other, for
-// which a shift by 8 needs more than 8 bits.
+// Whether a set names only zones of a site of `count` zones. Zone and scan call it behind question 2. With 8 zones every
+// set does; a shift by 8 needs more than 8 bits.
 pub fn is_within(set: u8, count: u8) -> bool
     requires { ⌜ count ≤ mostZones ⌝ }
     ensures { λ r. ⌜ r ≡ within set count ⌝ }

@@ -36,7 +36,7 @@ pub enum Checkpoint {
     Permanent(Saved),
 }
 
-// The local state of one zone (docs/RULES.md, section 3). Its number and the zone count stand beside it.
+// The local state of one zone (docs/RULES.md, section 3). Its number, the zone count and the edition stand beside it.
 pub struct Local {
     pub stock: u16,
     pub deps: u8,

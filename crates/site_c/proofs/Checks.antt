@@ -1,5 +1,5 @@
--- From edition 2 on a line check and its receipt leave every zone of a run as C keeps it as it was, accepted or refused; of a zone without a
--- mark the saved values aside, which mean nothing.
+-- From edition 2 on a line check and its receipt leave every zone of the site in a run that C keeps as it was, accepted or refused, as the
+-- engine sees it: the saved values of a zone without a mark, which mean nothing, aside.
 use mathlib.Core.Path.{_≡_, refl, _∙_, ap}
 use mathlib.Core.Bool.{Bool, true, false, cond}
 use mathlib.Core.List.{List, _∷_}

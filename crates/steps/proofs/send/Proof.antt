@@ -32,8 +32,8 @@ indexed c = c .before
 abbrev free : tie.After-has-checkpoint → tie.Else4
 free c = c .before
 
-abbrev worded : tie.After-push → tie.After-message-word
-worded c = c .before .before .before
+abbrev worded : tie.After-send → tie.After-message-word
+worded c = c .before
 
 -- The call, and what 5 and 6 leave: its zones are named, and there is room for what it takes.
 abbrev told : tie.Start → SiteCall
@@ -108,21 +108,22 @@ has-checkpoint-requires c κs = search needs
 message-word-requires : tie.Need-message-word-requires
 message-word-requires c κs = search needs
 
+send-requires : tie.Need-send-requires
+send-requires c κs = let v = covered (indexed (free (c .before) .before)) in (v .if3 .left, fits (roomy v) .1)
+
 push-requires : tie.Need-push-requires
 push-requires c κs = search needs
 
-send-requires : tie.Need-send-requires
-send-requires c κs = let v = covered (indexed (free (worded c .before) .before)) in (v .if3 .left, fits (roomy v) .1)
-
 returns-5 : tie.Need-returns-5
 returns-5 c = λ started.
-    let w = worded (c .before) in
+    let m = c .before .before .before in
+    let w = worded m in
     let f = free (w .before) in
     let p = indexed (f .before) in
     let r = roomy (covered p) in
     let n = named r in
     send-0 _ _ _ _ _ _ started _ _ _ _ _ (p .channel-index .ensures .0) (covered p .if3 .left) (f .if4 .left) (w .before .has-checkpoint .ensures)
-    (w .message-word .ensures) (c .before .push .ensures) (c .send .ensures)
+    (w .message-word .ensures) (c .push .ensures) (m .send .ensures)
     ∙ behind-6 (told (start n)) _ _ _ _ started (is-named n) (r .if2 .left)
 
 pub send-spec : {M : Type 1} → statement M
@@ -146,6 +147,6 @@ send-spec =
     returns-4
     has-checkpoint-requires
     message-word-requires
-    push-requires
     send-requires
+    push-requires
     returns-5)
