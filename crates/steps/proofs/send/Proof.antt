@@ -13,7 +13,7 @@ use borrow.Author.Needs.{needs}
 use Rattle.steps.proofs.send.Statement.{statement}
 use Rattle.steps.proofs.send.Tie as tie
 
--- Landmarks: 5 answered yes; 6; 7; the channel's index found; 8 answered yes; the message's word made.
+-- Landmarks: 5 answered yes; 6; 7; the channel's index found; 8 answered yes; the zone's side of the message made.
 abbrev start : tie.Else1 → tie.Start
 start c = c .before .before
 
@@ -29,11 +29,11 @@ covered c = c .before
 abbrev indexed : tie.After-if42 → tie.After-channel-index
 indexed c = c .before
 
-abbrev free : tie.After-has-checkpoint → tie.Else4
+abbrev free : tie.After-send → tie.Else4
 free c = c .before
 
-abbrev worded : tie.After-send → tie.After-message-word
-worded c = c .before
+abbrev sends : tie.After-has-checkpoint → tie.After-send
+sends c = c .before
 
 -- The call, and what 5 and 6 leave: its zones are named, and there is room for what it takes.
 abbrev told : tie.Start → SiteCall
@@ -102,23 +102,23 @@ returns-4 c = λ started.
     send-8 _ _ _ _ _ _ started _ _ (p .channel-index .ensures .0) (c .no-effect4 .ensures) (covered p .if3 .left) (c .before .if4 .taken)
     ∙ behind-6 (told (start n)) _ _ _ _ started (is-named n) (r .if2 .left)
 
+send-requires : tie.Need-send-requires
+send-requires c κs = let v = covered (indexed (c .before)) in (v .if3 .left, fits (roomy v) .1)
+
 has-checkpoint-requires : tie.Need-has-checkpoint-requires
 has-checkpoint-requires c κs = search needs
 
 message-word-requires : tie.Need-message-word-requires
 message-word-requires c κs = search needs
 
-send-requires : tie.Need-send-requires
-send-requires c κs = let v = covered (indexed (free (c .before) .before)) in (v .if3 .left, fits (roomy v) .1)
-
 push-requires : tie.Need-push-requires
 push-requires c κs = search needs
 
 returns-5 : tie.Need-returns-5
 returns-5 c = λ started.
-    let m = c .before .before .before in
-    let w = worded m in
-    let f = free (w .before) in
+    let w = c .before .before .before in
+    let m = sends (w .before) in
+    let f = free m in
     let p = indexed (f .before) in
     let r = roomy (covered p) in
     let n = named r in
@@ -145,8 +145,8 @@ send-spec =
     element-copy-out-if4
     no-effect-requires-4
     returns-4
+    send-requires
     has-checkpoint-requires
     message-word-requires
-    send-requires
     push-requires
     returns-5)
