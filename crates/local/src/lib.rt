@@ -3,11 +3,12 @@
 ghost use mathlib.Core.Path.{_≡_};
 ghost use Prim.Native.Nat.{_+_, _<_, _≤_};
 ghost use Rattle.rules.specs.Limits.{mostZones, mostCars, mostRecords};
-ghost use Rattle.rules.specs.Zone.{hasCheckpoint, isPermanent, opened, sentUnder, depsAfter, checkpointAfter, receivedUnder, withCheckpoint};
+ghost use Rattle.rules.specs.Zone.{hasCheckpoint, isPermanent, opened, sentUnder, depsAfter, checkpointAfter, receivedUnder, needed, through, gated, withCheckpoint};
 ghost use Rattle.rules.specs.declared.Checkpoint.the-variants.{Permanent};
 ghost use Rattle.rules.specs.Sets.{only};
 ghost use Rattle.local.specs.Requesting.{requestedBy, startedBy, turned};
 use rules::Checkpoint;
+use rules::Direction;
 use rules::Local;
 use rules::Saved;
 
@@ -132,6 +133,30 @@ pub fn receive(z: Local, edition: u8, from: u8, cars: u8, flag: bool) -> Local
         events,
         checkpoint,
     }
+}
+
+// The stock after cars have gone through a gate.
+fn stock_through(direction: Direction, cars: u8, stock: u16) -> u16
+    requires { ⌜ (needed direction cars ≤ stock) × (through direction cars stock ≤ mostCars) ⌝ }
+    ensures { λ r. ⌜ r ≡ through direction cars stock ⌝ }
+{
+    match direction {
+        Direction::In => stock + cars as u16,
+        Direction::Out => stock - cars as u16,
+    }
+}
+
+// Cars go through the zone's gate. Steps and zone call it behind 6, and behind 21 or 20 on the way in, 7 on the way out, by which the stock
+// stays within 16 bits.
+pub fn gate(mut z: Local, direction: Direction, cars: u8) -> Local
+    requires { ⌜
+        (needed direction cars ≤ z .stock) × (through direction cars (z .stock) ≤ mostCars) × (z .events < mostRecords)
+        ⌝ }
+    ensures { λ r. ⌜ r ≡ gated direction cars z ⌝ }
+{
+    z.stock = stock_through(direction, cars, z.stock);
+    z.events = z.events + 1;
+    z
 }
 
 // The state with a permanent checkpoint that keeps these values.

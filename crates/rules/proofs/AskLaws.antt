@@ -2,7 +2,7 @@
 use mathlib.Core.Path.{_≡_, refl, sym, _∙_}
 use mathlib.Core.Bool.{Bool, true, false, cond, _&&_, not}
 use mathlib.Core.Logic.{_≢_, _⊎_, inl, inr}
-use mathlib.Core.List.{List, [], _∷_}
+use mathlib.Core.List.{List, [], _∷_, _++_}
 use Prim.Native.Nat.{ℕ}
 use lib.Dec.{eqb}
 use borrow.Author.Tests.{eqb-false, not-true}
@@ -17,6 +17,15 @@ AllYes (q ∷ qs) = (q .yes ≡ true) × AllYes qs
 abbrev pub numbers : List Question → List ℕ
 numbers [] = []
 numbers (q ∷ qs) = q .number ∷ numbers qs
+
+-- Two lists of questions, one after the other.
+pub yes-both : (xs ys : List Question) → AllYes (xs ++ ys) → AllYes xs × AllYes ys
+yes-both [] ys h = (tt, h)
+yes-both (x ∷ xs) ys h = let r = yes-both xs ys (h .1) in ((h .0, r .0), r .1)
+
+pub both-yes : (xs ys : List Question) → AllYes xs → AllYes ys → AllYes (xs ++ ys)
+both-yes [] ys h k = k
+both-yes (x ∷ xs) ys h k = (h .0, both-yes xs ys (h .1) k)
 
 -- A number that is not among those of a list.
 abbrev pub lacks : ℕ → List ℕ → Bool

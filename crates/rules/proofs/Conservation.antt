@@ -1,4 +1,5 @@
--- A replay that is not refused keeps the number of cars, so the recorded park and the present one have as many cars as the opening.
+-- A replay that is not refused changes the number of cars by the entries and the exits, so the recorded park and the present one have as
+-- many cars as the opening with those.
 use mathlib.Core.Path.{_≡_, refl, sym, _∙_, ap}
 use mathlib.Core.Bool.{Bool, true, false, _&&_, true≢false, false≢true}
 use mathlib.Core.List.{List, [], _∷_, _++_, tail}
@@ -10,9 +11,12 @@ use borrow.Author.Tests.{leb-true, ne-eqb}
 use Rattle.rules.specs.Edition.{isTraffic}
 use Rattle.rules.specs.Opening.{Opening}
 use Rattle.rules.specs.Change.{join, cons-if}
-use Rattle.rules.specs.Site.{Item, message, request, Site, Call, send, receive, start, stepS, openS}
+use Rattle.rules.specs.Site.{Item, message, request, Site, Call, send, receive, start, gate, stepS, openS}
 use Rattle.rules.specs.Below.{sum, sumBelow}
-use Rattle.rules.specs.Park.{Park, Move, hand, take, openPark, handed, taken, handIf, takeIf, step, replay, isInside, counted, insideFrom, inside, total, Within}
+use Rattle.rules.specs.Zone.{needed, through}
+use Rattle.rules.specs.declared.Direction.{Direction}
+use Rattle.rules.specs.declared.Direction.the-variants.{In, Out}
+use Rattle.rules.specs.Park.{Park, Move, hand, take, pass, openPark, handed, taken, passed, handIf, takeIf, passIf, step, replay, isInside, counted, insideFrom, inside, total, entries, exits, Within}
 use Rattle.rules.specs.Cut.{Allowed, run, taking, moveOf, moves, Complete, present, snapshot}
 use Rattle.rules.proofs.Tests.{eqb-refl}
 use Rattle.rules.proofs.Sums.{sum-change, sums-zero, sums-change}
@@ -58,35 +62,84 @@ taken-total n a b c l p ha hb at =
 none≢some : {p : Park} → _≡_ {A = Option Park} none (some p) → ⊥
 none≢some e = let z : _≡_ {A = Bool} true false = cc in true≢false z
 
-step-total : (n : ℕ) (m : Move) (p q : Park) → Within n m → step m p ≡ some q → total n q ≡ total n p
+-- The park q has the cars of p, with the entries among some moves and without the exits.
+abbrev Balanced : ℕ → List Move → Park → Park → Type 0
+Balanced n ms p q = total n q + exits ms ≡ total n p + entries ms
+
+passed-total : (n : ℕ) (d : Direction) (a c : ℕ) (p : Park) → a < n → needed d c ≤ p .stock a
+    → Balanced n (pass d a c ∷ []) p (passed d a c p)
+passed-total n d a c p ha le =
+    let s = sum-change n ((passed d a c p) .stock) (p .stock) a ha
+    (λ k _ ne. on-false (eqb k a) (through d c) (p .stock k) (ne-eqb k a ne)) in
+    let s′ : (passed d a c p) .stock a ≡ through d c (p .stock a) = on-true (eqb a a) (through d c) (p .stock a) (eqb-refl a) in
+    go d le s s′
+  where
+    go : (d : Direction) → needed d c ≤ p .stock a
+        → sumBelow n ((passed d a c p) .stock) + p .stock a ≡ sumBelow n (p .stock) + (passed d a c p) .stock a
+        → (passed d a c p) .stock a ≡ through d c (p .stock a)
+        → Balanced n (pass d a c ∷ []) p (passed d a c p)
+    go In le s s′ = omega arith
+    go Out le s s′ = omega arith
+
+step-total : (n : ℕ) (m : Move) (p q : Park) → Within n m → step m p ≡ some q → Balanced n (m ∷ []) p q
 step-total n (hand a b c) p q w e = go (leb c (p .stock a)) refl e
   where
-    go : (t : Bool) → leb c (p .stock a) ≡ t → handIf t a b c p ≡ some q → total n q ≡ total n p
+    go : (t : Bool) → leb c (p .stock a) ≡ t → handIf t a b c p ≡ some q → Balanced n [] p q
     go true le e =
         let i : handed a b c p ≡ q = cc in
-        ap (total n) (sym i) ∙ handed-total n a b c p (w .0) (w .1) (leb-true c (p .stock a) le)
+        ap (λ (x : Park). total n x + 0) (sym i)
+        ∙ ap (λ (x : ℕ). x + 0) (handed-total n a b c p (w .0) (w .1) (leb-true c (p .stock a) le))
     go false le e = absurd (none≢some e)
 step-total n (take a b) p q w e = go (p .channel a b) refl e
   where
-    go : (l : List ℕ) → p .channel a b ≡ l → takeIf l a b p ≡ some q → total n q ≡ total n p
+    go : (l : List ℕ) → p .channel a b ≡ l → takeIf l a b p ≡ some q → Balanced n [] p q
     go [] at e = absurd (none≢some e)
     go (c ∷ l) at e =
         let i : taken a b c p ≡ q = cc in
-        ap (total n) (sym i) ∙ taken-total n a b c l p (w .0) (w .1) at
+        ap (λ (x : Park). total n x + 0) (sym i) ∙ ap (λ (x : ℕ). x + 0) (taken-total n a b c l p (w .0) (w .1) at)
+step-total n (pass d a c) p q w e = go (leb (needed d c) (p .stock a)) refl e
+  where
+    go : (t : Bool) → leb (needed d c) (p .stock a) ≡ t → passIf t d a c p ≡ some q → Balanced n (pass d a c ∷ []) p q
+    go true le e =
+        let i : passed d a c p ≡ q = cc in
+        ap (λ (x : Park). total n x + exits (pass d a c ∷ [])) (sym i)
+        ∙ passed-total n d a c p w (leb-true (needed d c) (p .stock a) le)
+    go false le e = absurd (none≢some e)
+
+-- Moves one after another.
+pub entries-append : (xs ys : List Move) → entries (xs ++ ys) ≡ entries xs + entries ys
+entries-append [] ys = omega arith
+entries-append (hand a b c ∷ xs) ys = entries-append xs ys
+entries-append (take a b ∷ xs) ys = entries-append xs ys
+entries-append (pass In a c ∷ xs) ys = let q = entries-append xs ys in omega arith
+entries-append (pass Out a c ∷ xs) ys = entries-append xs ys
+
+pub exits-append : (xs ys : List Move) → exits (xs ++ ys) ≡ exits xs + exits ys
+exits-append [] ys = omega arith
+exits-append (hand a b c ∷ xs) ys = exits-append xs ys
+exits-append (take a b ∷ xs) ys = exits-append xs ys
+exits-append (pass In a c ∷ xs) ys = exits-append xs ys
+exits-append (pass Out a c ∷ xs) ys = let q = exits-append xs ys in omega arith
 
 replay-none : (ms : List Move) → replay ms none ≡ none
 replay-none [] = refl
 replay-none (m ∷ ms) = replay-none ms
 
--- A replay that is not refused, of moves between zones of the park, keeps the number of cars.
-pub conserved : (n : ℕ) (ms : List Move) (p q : Park) → All (Within n) ms → replay ms (some p) ≡ some q → total n q ≡ total n p
-conserved n [] p q w e = let i : p ≡ q = cc in ap (total n) (sym i)
+-- A replay that is not refused, of moves at zones of the park, changes the number of cars by the entries and the exits.
+pub conserved : (n : ℕ) (ms : List Move) (p q : Park) → All (Within n) ms → replay ms (some p) ≡ some q
+    → total n q + exits ms ≡ total n p + entries ms
+conserved n [] p q w e = let i : p ≡ q = cc in ap (λ (x : Park). total n x + 0) (sym i)
 conserved n (m ∷ ms) p q w e = go (step m p) refl e (λ r. conserved n ms r q (w .1))
   where
     go : (o : Option Park) → step m p ≡ o → replay ms o ≡ some q
-        → ((r : Park) → replay ms (some r) ≡ some q → total n q ≡ total n r) → total n q ≡ total n p
+        → ((r : Park) → replay ms (some r) ≡ some q → Balanced n ms r q) → Balanced n (m ∷ ms) p q
     go none s e ih = absurd (none≢some (sym (replay-none ms) ∙ e))
-    go (some r) s e ih = ih r e ∙ step-total n m p r (w .0) s
+    go (some r) s e ih =
+        let h = ih r e in
+        let k = step-total n m p r (w .0) s in
+        let x = entries-append (m ∷ []) ms in
+        let y = exits-append (m ∷ []) ms in
+        omega arith
 
 -- The cars of the opening.
 open-total : (n : ℕ) (v : Opening) → total n (openPark v) ≡ sumBelow n (v .stocks)
@@ -106,6 +159,7 @@ abbrev pub Between : ℕ → Call → Type 0
 Between n (send a b c) = (a < n) × (b < n)
 Between n (receive a b) = (a < n) × (b < n)
 Between n (start a) = a < n
+Between n (gate d a c) = a < n
 
 all-append : (P : Move → Type 0) (xs ys : List Move) → All P xs → All P ys → All P (xs ++ ys)
 all-append P [] ys h k = k
@@ -125,6 +179,7 @@ moves-within n (c ∷ cs) s h = all-append (Within n) (moveOf c s) (moves cs (st
     one (send a b c) w = all-cons-if (Within n) (isTraffic (s .edition) c) _ [] w tt
     one (receive a b) w = taken-within a b (s .channel a b) w
     one (start a) w = tt
+    one (gate d a c) w = (w, tt)
 
 -- The park takes all moves of allowed calls, in their own order too, and ends as the site is.
 none-first : (es : List Event) → keep (inFirst (λ z. false)) es ≡ []
@@ -150,20 +205,22 @@ replayed v cs allowed =
     h : History
     h = history cs (openH v)
 
--- So the present park has the cars of the opening.
+-- So the present park has the cars of the opening, with the entries and without the exits.
 pub present-total : (n : ℕ) (v : Opening) (cs : List Call) → All (Between n) cs → Allowed cs (openS v)
-    → total n (present (run cs (openS v))) ≡ sumBelow n (v .stocks)
+    → total n (present (run cs (openS v))) + exits (moves cs (openS v)) ≡ sumBelow n (v .stocks) + entries (moves cs (openS v))
 present-total n v cs zones allowed =
     conserved n (moves cs (openS v)) (openPark v) (present (run cs (openS v))) (moves-within n cs (openS v) zones)
     (replayed v cs allowed)
-    ∙ open-total n v
+    ∙ ap (λ (x : ℕ). x + entries (moves cs (openS v))) (open-total n v)
 
--- And so has the recorded park.
+-- And so has the recorded park, with those inside the recording: the recorded total "equals the opening total plus entries less exits inside
+-- the recording".
 pub recorded-total : (n : ℕ) (v : Opening) (cs : List Call) → All (Between n) cs → Allowed cs (openS v) → Complete (run cs (openS v))
-    → total n ((snapshot v cs) .park) ≡ sumBelow n (v .stocks)
+    → total n ((snapshot v cs) .park) + exits (inside ((snapshot v cs) .events) (moves cs (openS v)))
+    ≡ sumBelow n (v .stocks) + entries (inside ((snapshot v cs) .events) (moves cs (openS v)))
 recorded-total n v cs zones allowed complete =
     let shown = (snapshot v cs) .events in
     conserved n (inside shown (moves cs (openS v))) (openPark v) ((snapshot v cs) .park)
     (all-inside (Within n) shown (λ k. 0) (moves cs (openS v)) (moves-within n cs (openS v) zones))
     ((consistent v cs allowed complete) .first)
-    ∙ open-total n v
+    ∙ ap (λ (x : ℕ). x + entries (inside shown (moves cs (openS v)))) (open-total n v)

@@ -11,7 +11,7 @@ use Rattle.rules.specs.Opening.{Opening}
 use Rattle.rules.specs.Change.{on, join, cons-if}
 use Rattle.rules.specs.Sets.{has}
 use Rattle.rules.specs.Zone.{hasCheckpoint, isPermanent, sentUnder, received, receivedUnder}
-use Rattle.rules.specs.Site.{Item, message, request, Site, receiveS, popS, turnS, startS, Call, send, receive, start, stepS, openS}
+use Rattle.rules.specs.Site.{Item, message, request, Site, receiveS, popS, turnS, startS, Call, send, receive, start, gate, stepS, openS}
 use Rattle.rules.specs.Park.{Move}
 use Rattle.rules.specs.Cut.{Allowed, run, taking, moveOf, moves}
 use Rattle.rules.specs.declared.Local.{Local}
@@ -19,7 +19,7 @@ use Rattle.rules.proofs.Tests.{both-true}
 use Rattle.rules.proofs.Editions.{sent-traffic, sent-check, received-traffic, received-check}
 use Rattle.rules.proofs.Guarded.{on-same, on-still, on-both}
 use Rattle.rules.proofs.Lists.{map-join}
-use Rattle.rules.proofs.Acts.{Act, handing}
+use Rattle.rules.proofs.Acts.{Act, handing, passing}
 use Rattle.rules.proofs.Tagged.{Event, acting, receiving}
 use Rattle.rules.proofs.Untagged.{untag}
 
@@ -108,6 +108,7 @@ abbrev pub initiatorAfter : Call → Option ℕ → Option ℕ
 initiatorAfter (send a b c) o = o
 initiatorAfter (receive a b) o = o
 initiatorAfter (start a) o = some a
+initiatorAfter (gate d a c) o = o
 
 abbrev pub logTaken : ℕ → ℕ → List Item → Site → List Event → List Event
 logTaken a b [] s log = log
@@ -118,6 +119,7 @@ abbrev pub logAfter : Call → Site → List Event → List Event
 logAfter (send a b c) s log = on (isTraffic (s .edition) c) (join (actingOf (handing a b c) s)) log
 logAfter (receive a b) s log = logTaken a b (s .channel a b) s log
 logAfter (start a) s log = log
+logAfter (gate d a c) s log = join (actingOf (passing d a c) s) log
 
 abbrev pub stepH : Call → History → History
 stepH c h = record { now = stepS c (h .now); initiator = initiatorAfter c (h .initiator); log = logAfter c (h .now) (h .log) }
@@ -214,6 +216,7 @@ moves-after (receive a b) s log = go (s .channel a b)
     go (message c flag ∷ l) = moves-if (isTraffic (s .edition) c) log _
     go (request set ∷ l) = sym (append-nil (map untag log))
 moves-after (start a) s log = sym (append-nil (map untag log))
+moves-after (gate d a c) s log = map-join untag log _
 
 moves-run : (cs : List Call) (h : History) → movesOf (history cs h) ≡ movesOf h ++ moves cs (h .now)
 moves-run [] h = sym (append-nil (movesOf h))

@@ -1,7 +1,7 @@
 -- What each step of a history does or keeps, every list of allowed calls does or keeps. A start is a request from nobody, since
 -- before the first start no zone has a checkpoint, and there is no second.
 use mathlib.Core.Path.{_≡_, refl, sym, _∙_, ap, subst}
-use mathlib.Core.Bool.{Bool, true, false, _&&_, _||_, not, true≢false}
+use mathlib.Core.Bool.{Bool, true, false, _&&_, _||_, not, true≢false, false≢true}
 use mathlib.Core.List.{List, [], _∷_, tail}
 use mathlib.Core.Option.{Option, none, some}
 use Prim.Native.Nat.{ℕ, _≤_}
@@ -12,14 +12,14 @@ use Rattle.rules.specs.Opening.{Opening}
 use Rattle.rules.specs.Change.{on, join}
 use Rattle.rules.specs.Sets.{nobody}
 use Rattle.rules.specs.Zone.{hasCheckpoint, isPermanent, received, started, requested}
-use Rattle.rules.specs.Site.{Item, message, request, popS, turnS, takeS, startS, Call, send, receive, start}
+use Rattle.rules.specs.Site.{Item, message, request, popS, turnS, takeS, startS, Call, send, receive, start, gate}
 use Rattle.rules.specs.Cut.{May, Allowed}
 use Rattle.rules.specs.declared.Local.{Local}
 use Rattle.rules.proofs.Tests.{eqb-refl}
 use Rattle.rules.proofs.Guarded.{on-keeps, on-true}
 use Rattle.rules.proofs.Lists.{All, all-join, all-tail}
 use Rattle.rules.proofs.Checkpoints.{has-checkpoint-after, permanent-after, permanent-made, started-requested}
-use Rattle.rules.proofs.Acts.{Act, handing}
+use Rattle.rules.proofs.Acts.{Act, handing, passing}
 use Rattle.rules.proofs.History.{History, openH, NoCheckpoint, IsPermanent, ownH, own-checkpoint, receiveH, checkH, takeH, send-own, send-check, take-receive, take-check, popH, turnH, beginH, startH, logTaken, stepH, history}
 
 -- A message that an act puts on a channel is traffic.
@@ -172,6 +172,7 @@ module _ {κ} (R : History → History → Type κ) (does : Does R) where
   call-does (start a) h f may =
       let e = first-start a h f may in
       subst (R h) (sym (start-turn a h (f .no-checkpoint e a))) (does .at-start a h e (f .no-checkpoint e))
+  call-does (gate d a c) h f may = does .at-own (passing d a c) h may (λ i j e. absurd (false≢true e))
 
 pub fresh-call : (c : Call) (h : History) → Fresh h → May c (h .now) → Fresh (stepH c h)
 fresh-call c h f may = call-does (λ h t. Fresh h → Fresh t) fresh-kept c h f may f

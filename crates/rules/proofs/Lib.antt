@@ -23,3 +23,4 @@ pub mod QuestionLaws
 pub mod AskLaws
 pub mod SiteLaws
 pub mod Checks
+pub mod Gates

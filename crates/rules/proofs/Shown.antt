@@ -10,7 +10,7 @@ use Rattle.rules.specs.Opening.{Opening}
 use Rattle.rules.specs.Change.{on}
 use Rattle.rules.specs.Sets.{nobody}
 use Rattle.rules.specs.Zone.{hasCheckpoint, isPermanent, saved, received, checkpointAfter, started, requested, madePermanent}
-use Rattle.rules.specs.Site.{Site, Call, send, receive, start, stepS, openS}
+use Rattle.rules.specs.Site.{Site, Call, send, receive, start, gate, stepS, openS}
 use Rattle.rules.specs.Park.{own}
 use Rattle.rules.specs.Cut.{Allowed, run, moves, eventsOf, Checkpointing, Starting}
 use Rattle.rules.specs.declared.Local.{Local}
@@ -172,6 +172,8 @@ initiator-starting (send x y n ∷ cs) h f al a e q =
     starting-later _ cs a (initiator-starting cs (stepH (send x y n) h) (fresh-call (send x y n) h f (al .0)) (al .1) a e q)
 initiator-starting (receive x y ∷ cs) h f al a e q =
     starting-later _ cs a (initiator-starting cs (stepH (receive x y) h) (fresh-call (receive x y) h f (al .0)) (al .1) a e q)
+initiator-starting (gate d x n ∷ cs) h f al a e q =
+    starting-later _ cs a (initiator-starting cs (stepH (gate d x n) h) (fresh-call (gate d x n) h f (al .0)) (al .1) a e q)
 initiator-starting (start x ∷ cs) h f al a e q =
     let w : (history cs (stepH (start x) h)) .initiator ≡ some x
     = calls-keep (λ t. t .initiator ≡ some x) (initiator-kept x) cs (stepH (start x) h) (fresh-call (start x) h f (al .0))

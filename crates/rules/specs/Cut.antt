@@ -8,17 +8,19 @@ use lib.ListN.{drop}
 use Rattle.rules.specs.Change.{cons-if}
 use Rattle.rules.specs.Edition.{isTraffic}
 use Rattle.rules.specs.Opening.{Opening}
-use Rattle.rules.specs.Zone.{hasCheckpoint, isPermanent}
-use Rattle.rules.specs.Site.{Item, message, request, Site, Call, send, receive, start, stepS, openS, waits}
-use Rattle.rules.specs.Park.{Park, Move, hand, take, openPark, replay, own, inside, outside, hands, takes}
+use Rattle.rules.specs.Zone.{hasCheckpoint, isPermanent, needed}
+use Rattle.rules.specs.Site.{Item, message, request, Site, Call, send, receive, start, gate, stepS, openS, waits}
+use Rattle.rules.specs.Park.{Park, Move, hand, take, pass, openPark, replay, own, inside, outside, hands, takes}
 use Rattle.rules.specs.declared.Checkpoint.{Checkpoint}
 use Rattle.rules.specs.declared.Checkpoint.the-variants.{None, Mutable, Permanent}
 
--- What the rules ask of a call that is accepted: the stock covers the cars; the channel holds an item; no recording has been started.
+-- What the rules ask of a call that is accepted: the stock covers the cars that leave it; the channel holds an item; no recording has
+-- been started.
 abbrev pub May : Call → Site → Type 0
 May (send a b cars) s = cars ≤ s .zone a .stock
 May (receive a b) s = s .channel a b ≡ [] → ⊥
 May (start a) s = (z : ℕ) → isPermanent (s .zone z .checkpoint) ≡ false
+May (gate direction a cars) s = needed direction cars ≤ s .zone a .stock
 
 -- Calls made one after another, each as the rules ask.
 abbrev pub Allowed : List Call → Site → Type 0
@@ -31,7 +33,8 @@ run [] s = s
 run (c ∷ cs) s = run cs (stepS c s)
 
 -- What the park is fed of a call: "the accepted hand-over calls and the accepted receipt calls that take a hand-over", from edition 2 on
--- "hand-overs with cars and receipts of these": in every edition those that are traffic in it.
+-- "hand-overs with cars and receipts of these": in every edition those that are traffic in it. Demand 3 "then has gate calls in its list too
+-- and counts gate events among those replayed".
 abbrev pub taking : ℕ → ℕ → ℕ → List Item → List Move
 taking edition a b [] = []
 taking edition a b (message cars flag ∷ l) = cons-if (isTraffic edition cars) (take a b) []
@@ -41,6 +44,7 @@ abbrev pub moveOf : Call → Site → List Move
 moveOf (send a b cars) s = cons-if (isTraffic (s .edition) cars) (hand a b cars) []
 moveOf (receive a b) s = taking (s .edition) a b (s .channel a b)
 moveOf (start a) s = []
+moveOf (gate direction a cars) s = pass direction a cars ∷ []
 
 abbrev pub moves : List Call → Site → List Move
 moves [] s = []

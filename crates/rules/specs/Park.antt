@@ -8,15 +8,19 @@ use lib.Dec.{eqb, leb, ltb}
 use Rattle.rules.specs.Opening.{Opening}
 use Rattle.rules.specs.Below.{sum, sumBelow}
 use Rattle.rules.specs.Change.{on, join, cons-if}
+use Rattle.rules.specs.Zone.{needed, through}
+use Rattle.rules.specs.declared.Direction.{Direction}
+use Rattle.rules.specs.declared.Direction.the-variants.{In, Out}
 
 pub record Park : Type 0 where
   pub stock : ℕ → ℕ
   pub channel : ℕ → ℕ → List ℕ
 
--- What the park is fed: hand-overs, and receipts of them.
+-- What the park is fed: hand-overs, receipts of them, and cars that go through gates.
 pub data Move : Type 0 where
   hand : (from to cars : ℕ) → Move
   take : (from to : ℕ) → Move
+  pass : (direction : Direction) (zone cars : ℕ) → Move
 
 -- "It starts with the opening stocks and empty lines."
 abbrev pub openPark : Opening → Park
@@ -46,10 +50,19 @@ abbrev pub takeIf : List ℕ → ℕ → ℕ → Park → Option Park
 takeIf [] a b p = none
 takeIf (c ∷ l) a b p = some (taken a b c p)
 
--- One step; none: refused.
+-- "an entry raises the plain park's stock, an exit lowers it and is refused beyond it".
+abbrev pub passed : Direction → ℕ → ℕ → Park → Park
+passed direction a c p = record { stock = λ k. on (eqb k a) (through direction c) (p .stock k); channel = p .channel }
+
+abbrev pub passIf : Bool → Direction → ℕ → ℕ → Park → Option Park
+passIf true direction a c p = some (passed direction a c p)
+passIf false direction a c p = none
+
+-- One step; none: refused. "that replay has no limit on the sum".
 abbrev pub step : Move → Park → Option Park
 step (hand a b c) p = handIf (leb c (p .stock a)) a b c p
 step (take a b) p = takeIf (p .channel a b) a b p
+step (pass direction a c) p = passIf (leb (needed direction c) (p .stock a)) direction a c p
 
 abbrev pub stepIf : Move → Option Park → Option Park
 stepIf m none = none
@@ -60,10 +73,11 @@ abbrev pub replay : List Move → Option Park → Option Park
 replay [] p = p
 replay (m ∷ ms) p = replay ms (stepIf m p)
 
--- Whose own event a move is: "a hand-over for its sender, a receipt for its receiver".
+-- Whose own event a move is: "a hand-over for its sender, a receipt for its receiver", a gate event for its zone.
 abbrev pub owner : Move → ℕ
 owner (hand a b c) = a
 owner (take a b) = b
+owner (pass direction a c) = a
 
 -- The number of own events of a zone.
 abbrev pub own : ℕ → List Move → ℕ
@@ -97,17 +111,35 @@ abbrev pub hands : ℕ → ℕ → List Move → List ℕ
 hands i j [] = []
 hands i j (hand a b c ∷ ms) = cons-if (eqb i a && eqb j b) c (hands i j ms)
 hands i j (take a b ∷ ms) = hands i j ms
+hands i j (pass direction a c ∷ ms) = hands i j ms
 
 abbrev pub takes : ℕ → ℕ → List Move → ℕ
 takes i j [] = 0
 takes i j (hand a b c ∷ ms) = takes i j ms
 takes i j (take a b ∷ ms) = on (eqb i a && eqb j b) suc (takes i j ms)
+takes i j (pass direction a c ∷ ms) = takes i j ms
 
 -- All the cars of a park of n zones: the stocks, and the cars on the channels.
 abbrev pub total : ℕ → Park → ℕ
 total n p = sumBelow n (p .stock) + sumBelow n (λ i. sumBelow n (λ j. sum (p .channel i j)))
 
--- A move between zones of a park of n zones.
+-- The cars that drove in, and those that drove out: "entries" and "exits".
+abbrev pub entries : List Move → ℕ
+entries [] = 0
+entries (hand a b c ∷ ms) = entries ms
+entries (take a b ∷ ms) = entries ms
+entries (pass In a c ∷ ms) = c + entries ms
+entries (pass Out a c ∷ ms) = entries ms
+
+abbrev pub exits : List Move → ℕ
+exits [] = 0
+exits (hand a b c ∷ ms) = exits ms
+exits (take a b ∷ ms) = exits ms
+exits (pass In a c ∷ ms) = exits ms
+exits (pass Out a c ∷ ms) = c + exits ms
+
+-- A move at zones of a park of n zones.
 abbrev pub Within : ℕ → Move → Type 0
 Within n (hand a b c) = (a < n) × (b < n)
 Within n (take a b) = (a < n) × (b < n)
+Within n (pass direction a c) = a < n

@@ -7,7 +7,8 @@ use lib.Dec.{eqb}
 use Rattle.rules.specs.Opening.{Opening}
 use Rattle.rules.specs.Change.{on, join}
 use Rattle.rules.specs.Sets.{has, nobody}
-use Rattle.rules.specs.Zone.{hasCheckpoint, isPermanent, opened, sentUnder, receivedUnder, started, requested, targets, carried}
+use Rattle.rules.specs.Zone.{hasCheckpoint, isPermanent, opened, sentUnder, receivedUnder, gated, started, requested, targets, carried}
+use Rattle.rules.specs.declared.Direction.{Direction}
 use Rattle.rules.specs.declared.Local.{Local}
 
 -- What a channel carries: messages ("hand-overs"), with cars and the flag ("marked bit"), and requests, with a set of zones.
@@ -61,6 +62,14 @@ requestS a b set s = on (not (isPermanent (s .zone b .checkpoint))) (turnS b set
 abbrev pub startS : ℕ → Site → Site
 startS a s = requestAllS a started (targets a nobody (s .zone a)) (carried nobody (s .zone a)) s
 
+-- Cars go through the gate of zone a: no channel changes.
+abbrev pub gateS : Direction → ℕ → ℕ → Site → Site
+gateS direction a cars s = record {
+  edition = s .edition;
+  zone = λ k. on (eqb k a) (gated direction cars) (s .zone k);
+  channel = s .channel;
+}
+
 -- A receipt takes the first item of the channel.
 abbrev pub takeS : ℕ → ℕ → List Item → Site → Site
 takeS a b [] s = s
@@ -72,12 +81,14 @@ pub data Call : Type 0 where
   send : (from to cars : ℕ) → Call
   receive : (from to : ℕ) → Call
   start : (zone : ℕ) → Call
+  gate : (direction : Direction) (zone cars : ℕ) → Call
 
 -- "Each call is one indivisible step."
 abbrev pub stepS : Call → Site → Site
 stepS (send a b cars) s = sendS a b cars s
 stepS (receive a b) s = takeS a b (s .channel a b) s
 stepS (start a) s = startS a s
+stepS (gate direction a cars) s = gateS direction a cars s
 
 -- The site of an opening.
 abbrev pub openS : Opening → Site

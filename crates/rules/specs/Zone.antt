@@ -8,6 +8,8 @@ use Rattle.rules.specs.declared.Local.{Local}
 use Rattle.rules.specs.declared.Saved.{Saved}
 use Rattle.rules.specs.declared.Checkpoint.{Checkpoint}
 use Rattle.rules.specs.declared.Checkpoint.the-variants.{None, Mutable, Permanent}
+use Rattle.rules.specs.declared.Direction.{Direction}
+use Rattle.rules.specs.declared.Direction.the-variants.{In, Out}
 
 -- Has the zone a checkpoint of either kind ("either mark")?
 abbrev pub hasCheckpoint : Checkpoint → Bool
@@ -68,6 +70,25 @@ sentUnder edition cars z = on (isTraffic edition cars) (sent cars) z
 
 abbrev pub receivedUnder : ℕ → ℕ → ℕ → Bool → Local → Local
 receivedUnder edition from cars flag z = on (isTraffic edition cars) (received from cars flag) z
+
+-- The cars that must be in the stock for cars to go through the gate: those that drive out.
+abbrev pub needed : Direction → ℕ → ℕ
+needed In cars = 0
+needed Out cars = cars
+
+-- "changes that zone's stock by a signed amount": the stock after them.
+abbrev pub through : Direction → ℕ → ℕ → ℕ
+through In cars stock = stock + cars
+through Out cars stock = stock - cars
+
+-- Cars go through the gate: "It is an own event, also with 0 cars". The dependency set and the checkpoint stay.
+abbrev pub gated : Direction → ℕ → Local → Local
+gated direction cars z = record {
+  stock = through direction cars (z .stock);
+  deps = z .deps;
+  events = z .events + 1;
+  checkpoint = z .checkpoint;
+}
 
 -- The zone with another checkpoint.
 abbrev pub withCheckpoint : Checkpoint → Local → Local

@@ -23,6 +23,12 @@ pub const PLACES: usize = MOST_ITEMS as usize;
 
 pub const RECORDS: usize = MOST_RECORDS as usize;
 
+// The ways through a gate ("direction"): cars drive in from the street, or out to it.
+pub enum Direction {
+    In,
+    Out,
+}
+
 // The stock and the number of own events that a checkpoint keeps.
 pub struct Saved {
     pub stock: u16,

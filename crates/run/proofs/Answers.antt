@@ -6,15 +6,17 @@ use mathlib.Core.List.{List, [], _∷_}
 use Prim.Native.Nat.{ℕ}
 use Rattle.rules.specs.Questions.{Question, question, ask, refusal, index, Among}
 use Rattle.channel.specs.Channels.{channelIndex, lenOf}
-use Rattle.run.specs.State.{zoneAt, isSound, hasStarted, termsOf, countOf}
-use Rattle.run.specs.Calls.{refused, answer, granted, questions, actorIn}
-use Rattle.run.specs.Claims.{sendQuestions, sendRefusal, openRefusals, possibleAnswers}
+use Rattle.run.specs.State.{zoneAt, allCars, isSound, editionOf, countOf}
+use Rattle.run.specs.Calls.{refused, answer, granted, questions}
+use Rattle.run.specs.Claims.{sendQuestions, sendRefusal, gateQuestions, gateRefusal, gateRefusals, openRefusals, possibleAnswers}
 use Rattle.run.specs.declared.Run.{Run}
 use Rattle.run.specs.declared.Answer.{Answer}
 use Rattle.run.proofs.Outcome.{answer-is, listed, unlisted}
 use Rattle.run.specs.declared.SiteCall.{SiteCall}
 use Rattle.run.specs.Opening.{openCall, openQuestions}
-use Rattle.run.specs.declared.SiteCall.the-variants.{Send}
+use Rattle.run.specs.declared.SiteCall.the-variants.{Send, Gate}
+use Rattle.rules.specs.declared.Direction.{Direction}
+use Rattle.rules.specs.declared.Direction.the-variants.{In, Out}
 use Rattle.run.specs.declared.Opening.{Opening}
 use Rattle.rules.proofs.AskLaws.{not-among, refusal-among}
 
@@ -48,12 +50,28 @@ pub send-among : (count records stock len from to cars : ℕ)
     → Among (sendRefusal count records stock len from to cars) (0 ∷ 5 ∷ 6 ∷ 7 ∷ 8 ∷ [])
 send-among count records stock len from to cars = refusal-among (sendQuestions count records stock len from to cars)
 
+-- "1, then 15 .., 5, 6, then 7 for an exit", 21 for an entry: a sound run answers a gate call by its edition, its zone count, its number of
+-- records, the zone's stock, and its stocks plus cars on lines, whether a recording is started or not.
+pub gate-answer : (r : Run) (d : Direction) (zone cars : ℕ) → isSound r ≡ true
+    → answer (Gate d zone cars) r .refusal
+    ≡ gateRefusal d (editionOf (r .head)) (countOf (r .head)) (r .head .records) (zoneAt (r .head) (index zone) .stock) (allCars r) zone cars
+unfolding answer
+gate-answer r d zone cars e =
+    let stock = zoneAt (r .head) (index zone) .stock in
+    ask-refusal (question 1 (isSound r) ∷ gateQuestions d (editionOf (r .head)) (countOf (r .head)) (r .head .records) stock (allCars r) zone cars) r
+    (granted (Gate d zone cars) r) refl
+    ∙ rw e
+
+pub gate-among : (d : Direction) (edition count records stock held zone cars : ℕ)
+    → Among (gateRefusal d edition count records stock held zone cars) (0 ∷ 15 ∷ 5 ∷ 6 ∷ gateRefusals d)
+gate-among In edition count records stock held zone cars = refusal-among (gateQuestions In edition count records stock held zone cars)
+gate-among Out edition count records stock held zone cars = refusal-among (gateQuestions Out edition count records stock held zone cars)
+
 -- Of any run, sound or not: each call answers 0 or a number of its list.
 pub call-among : (c : SiteCall) (r : Run) → Among (answer c r .refusal) (possibleAnswers c)
 call-among c r =
     subst (λ (n : ℕ). Among n (possibleAnswers c)) (sym (refusal-is c r))
-    (subst (λ (ns : List ℕ). Among (refusal (questions c r)) (0 ∷ 1 ∷ 5 ∷ 6 ∷ ns)) (listed c (termsOf (r .head)) (actorIn c r) (r .channels) (hasStarted (r .head)))
-    (refusal-among (questions c r)))
+    (subst (λ (ns : List ℕ). Among (refusal (questions c r)) (0 ∷ ns)) (listed c r) (refusal-among (questions c r)))
 
 pub open-among : (o : Opening) → Among (openCall o .refusal) (0 ∷ openRefusals)
 unfolding openCall

@@ -1,6 +1,7 @@
--- Stocks plus cars on channels stay the same by any list of calls, and are what the opening brought.
+-- Stocks plus cars on channels after any list of calls: what the opening brought, with the cars of the accepted entries and without those of
+-- the accepted exits, and at most 65,535.
 use mathlib.Core.Path.{_≡_, refl, sym, _∙_, ap, ap₂, subst}
-use mathlib.Core.Bool.{Bool, true, false, _&&_, not}
+use mathlib.Core.Bool.{Bool, true, false, cond, _&&_, not}
 use mathlib.Core.Logic.{_≢_, _⊎_, inl, inr}
 use mathlib.Core.List.{List, [], _∷_, tail}
 use Prim.Native.Nat.{ℕ, _+_, _-_, _*_, _/_, _%_, _≤_, _<_}
@@ -8,9 +9,10 @@ use native.Mathlib.Omega.{arith}
 use lib.Dec.{eqb}
 use borrow.Author.Tests.{ne-eqb}
 use Rattle.rules.specs.Change.{on, join}
+use Rattle.rules.specs.Questions.{index}
 use Rattle.rules.specs.Sets.{has}
-use Rattle.rules.specs.Zone.{isPermanent, requested, started, targets, carried}
-use Rattle.rules.specs.Site.{Item, message, request, Site, Call, send, receive, start, popS, requestAllS, turnS, stepS, takeS}
+use Rattle.rules.specs.Zone.{isPermanent, needed, through, requested, started, targets, carried}
+use Rattle.rules.specs.Site.{Item, message, request, Site, send, receive, start, gate, popS, requestAllS, turnS, stepS, takeS}
 use Rattle.rules.specs.Cut.{May}
 use Rattle.rules.specs.declared.Local.{Local}
 use Rattle.rules.proofs.Guarded.{on-same, on-same-at}
@@ -18,11 +20,11 @@ use Rattle.rules.proofs.Tests.{both-true, eqb-refl}
 use Rattle.channel.specs.Channels.{channelIndex}
 use Rattle.channel.specs.Words.{carsIn}
 use Rattle.rules.specs.Below.{sum}
-use Rattle.run.specs.State.{carsOf, countOf}
+use Rattle.run.specs.State.{carsOf, countOf, allCars}
 use Rattle.run.specs.Calls.{answer, granted}
 use Rattle.run.specs.Model.{siteOf}
-use Rattle.run.specs.Lists.{callOf, after}
-use Rattle.run.specs.Claims.{WholeRun, Typed, AllTyped, allCars}
+use Rattle.run.specs.Lists.{callOf, isAccepted, after}
+use Rattle.run.specs.Claims.{WholeRun, Typed, AllTyped, entering, leaving, entered, left}
 use Rattle.run.specs.declared.Run.{Run}
 use Rattle.run.specs.declared.Answer.{Answer}
 use Rattle.run.proofs.Outcome.{Pair, Sited, sited, Passed, Refused, outcome, is-open, Fitting}
@@ -33,6 +35,9 @@ use Rattle.run.proofs.Parts.{stocksS, carsS, stocks-are, cars-are, part
 use Rattle.run.proofs.Whole.{call-whole, open-whole}
 use Rattle.run.proofs.Refine.{refine, opened-site}
 use Rattle.run.specs.declared.SiteCall.{SiteCall}
+use Rattle.run.specs.declared.SiteCall.the-variants.{Receive, Send, Start, Gate}
+use Rattle.rules.specs.declared.Direction.{Direction}
+use Rattle.rules.specs.declared.Direction.the-variants.{In, Out}
 use Rattle.run.specs.declared.Opening.{Opening}
 use Rattle.run.specs.Opening.{openCall, openedRun}
 
@@ -124,29 +129,69 @@ module _ (n : ℕ) (most : n ≤ 8) (a b : ℕ) (p : Pair n a b) (s : Site) wher
       (requests-keep n b (targets b set (s .zone b)) (carried set (s .zone b)) requested (popS a b s) (λ z. refl))
       ∙ pop-keeps n a b set rest s e
 
-pub step-keeps : (n : ℕ) (c : Call) (s : Site) → n ≤ 8 → Sited n c → May c s → total n (stepS c s) ≡ total n s
-step-keeps n (send a b cars) s most p m = send-keeps n most a b p s cars m
-step-keeps n (receive a b) s most p m = take-keeps n most a b p s (s .channel a b) refl
-step-keeps n (start a) s most p m = requests-keep n a _ _ started s (λ z. refl)
+-- A gate's cars change one stock.
+gate-cars : (d : Direction) (a cars : ℕ) (s : Site) → carsS (stepS (gate d a cars) s) ≡ carsS s
+unfolding carsS
+gate-cars d a cars s = refl
+
+gate-changes : (n : ℕ) (d : Direction) (zone cars : ℕ) (s : Site) → index zone < n → needed d cars ≤ s .zone (index zone) .stock
+    → total n (stepS (gate d (index zone) cars) s) + leaving (Gate d zone cars) ≡ total n s + entering (Gate d zone cars)
+gate-changes n d zone cars s h m =
+    let a = index zone in
+    let t = stepS (gate d a cars) s in
+    let z = zone-sum n a s t h (λ k e. rw e) in
+    let x : t .zone a .stock ≡ through d cars (s .zone a .stock) = rw (eqb-refl a) in
+    go d m z x
+  where
+    go : (d : Direction) → needed d cars ≤ s .zone (index zone) .stock
+        → stocksS n (stepS (gate d (index zone) cars) s) + s .zone (index zone) .stock
+        ≡ stocksS n s + stepS (gate d (index zone) cars) s .zone (index zone) .stock
+        → stepS (gate d (index zone) cars) s .zone (index zone) .stock ≡ through d cars (s .zone (index zone) .stock)
+        → total n (stepS (gate d (index zone) cars) s) + leaving (Gate d zone cars) ≡ total n s + entering (Gate d zone cars)
+    go In m z x = omega (arith, gate-cars In (index zone) cars s)
+    go Out m z x = omega (arith, gate-cars Out (index zone) cars s)
+
+pub step-changes : (n : ℕ) (c : SiteCall) (s : Site) → n ≤ 8 → Sited n (callOf c) → May (callOf c) s
+    → total n (stepS (callOf c) s) + leaving c ≡ total n s + entering c
+step-changes n (Send from to cars) s most p m = ap (λ (x : ℕ). x + 0) (send-keeps n most (index from) (index to) p s cars m)
+step-changes n (Receive from to) s most p m =
+    ap (λ (x : ℕ). x + 0) (take-keeps n most (index from) (index to) p s (s .channel (index from) (index to)) refl)
+step-changes n (Start zone) s most p m = ap (λ (x : ℕ). x + 0) (requests-keep n (index zone) _ _ started s (λ z. refl))
+step-changes n (Gate d zone cars) s most p m = gate-changes n d zone cars s p m
 
 -- The cars of a run are those of its site.
 pub cars-at : (r : Run) → allCars r ≡ stocksS (countOf (r .head)) (siteOf r) + carsS (siteOf r)
 cars-at r = ap₂ _+_ (stocks-are r) (cars-are r)
 
-pub call-conserves : (c : SiteCall) (r : Run) → WholeRun r → Typed c → allCars (answer c r .run) ≡ allCars r
+-- An accepted call adds the cars that it brings in and takes away those that it takes out; a refused one changes nothing.
+pub granted-conserves : (c : SiteCall) (r : Run) → WholeRun r → Typed c → Passed c r
+    → allCars (granted c r .run) + leaving c ≡ allCars r + entering c
+granted-conserves c r w t p =
+    let e = ap (λ (x : Answer). x .run) (p .result) in
+    let (q, m) = refine c r w t (p .said) in
+    let a : allCars (granted c r .run) ≡ total (countOf (r .head)) (stepS (callOf c) (siteOf r)) =
+    cars-at (granted c r .run) ∙ ap (total (countOf (r .head))) (sym (ap siteOf e) ∙ q) in
+    let b = cars-at r in
+    let s = step-changes (countOf (r .head)) c (siteOf r) (parts r (p .sound) .most) (sited c r p) m in
+    omega arith
+
+pub call-conserves : (c : SiteCall) (r : Run) → WholeRun r → Typed c
+    → allCars (answer c r .run) + cond (isAccepted c r) (leaving c) 0 ≡ allCars r + cond (isAccepted c r) (entering c) 0
 call-conserves c r w t = go (outcome c r)
   where
-    go : Passed c r ⊎ Refused c r → allCars (answer c r .run) ≡ allCars r
+    go : Passed c r ⊎ Refused c r
+        → allCars (answer c r .run) + cond (isAccepted c r) (leaving c) 0 ≡ allCars r + cond (isAccepted c r) (entering c) 0
     go (inl p) =
-        let e = ap (λ (x : Answer). x .run) (p .result) in
-        let (q, m) = refine c r w t (p .said) in
-        ap allCars e ∙ cars-at (granted c r .run) ∙ ap (total (countOf (r .head))) (sym (ap siteOf e) ∙ q)
-        ∙ step-keeps (countOf (r .head)) (callOf c) (siteOf r) (parts r (p .sound) .most) (sited c r p) m ∙ sym (cars-at r)
-    go (inr p) = ap allCars (p .kept)
+        rw (p .said) (ap (λ (x : Answer). allCars (x .run) + leaving c) (p .result) ∙ granted-conserves c r w t p)
+    go (inr p) = rw (p .said) (ap (λ (x : Run). allCars x + 0) (p .kept))
 
-pub conserve-from : (cs : List SiteCall) (r : Run) → WholeRun r → AllTyped cs → allCars (after cs r) ≡ allCars r
+pub conserve-from : (cs : List SiteCall) (r : Run) → WholeRun r → AllTyped cs
+    → allCars (after cs r) + left cs r ≡ allCars r + entered cs r
 conserve-from [] r w t = refl
-conserve-from (c ∷ cs) r w t = conserve-from cs (answer c r .run) (call-whole c r w) (t .1) ∙ call-conserves c r w (t .0)
+conserve-from (c ∷ cs) r w t =
+    let h = conserve-from cs (answer c r .run) (call-whole c r w) (t .1) in
+    let k = call-conserves c r w (t .0) in
+    omega arith
 
 pub opened-cars : (o : Opening) → Fitting o → allCars (openedRun o) ≡ sum (o .stocks)
 unfolding openedRun carsS
@@ -156,8 +201,8 @@ opened-cars o f =
 
 -- From an accepted opening, after any list of calls.
 pub conserve : (o : Opening) (cs : List SiteCall) → openCall o .refusal ≡ 0 → AllTyped cs
-    → allCars (after cs (openCall o .run)) ≡ sum (o .stocks)
+    → allCars (after cs (openCall o .run)) + left cs (openCall o .run) ≡ sum (o .stocks) + entered cs (openCall o .run)
 conserve o cs e t =
     let p = is-open o e in
     conserve-from cs (openCall o .run) (open-whole o) t
-    ∙ ap (λ (x : Answer). allCars (x .run)) (p .result) ∙ opened-cars o (p .fits)
+    ∙ ap (λ (n : ℕ). n + entered cs (openCall o .run)) (ap (λ (x : Answer). allCars (x .run)) (p .result) ∙ opened-cars o (p .fits))

@@ -4,22 +4,22 @@ use mathlib.Core.Bool.{Bool, true, false}
 use mathlib.Core.List.{List, [], _∷_}
 use Prim.Native.Nat.{ℕ}
 use lib.ListN.{replicate, take}
-use Rattle.rules.specs.Edition.{isEdition, isTraffic}
+use Rattle.rules.specs.Edition.{isEdition, isTraffic, hasGates}
 use Rattle.rules.specs.Questions.{isCount, isOn}
 use Rattle.rules.specs.Sets.{has, members}
-use Rattle.rules.specs.Site.{message, request, send, receive, start}
+use Rattle.rules.specs.Site.{message, request, send, receive, start, gate}
 use Rattle.rules.specs.Zone.{hasCheckpoint}
 use Rattle.local.specs.Requesting.{requestedBy, startedBy}
 use Rattle.channel.specs.Words.{itemOf, messageWord}
 use Rattle.channel.specs.Channels.{pushed, movedDown, popped, allFree, requestedAll, isChannel}
-use Rattle.run.specs.State.{localSound, localsSound, channelSound, channelsSound, stocks, carsOnChannels, partsSound, hasStarted}
+use Rattle.run.specs.State.{localSound, localsSound, channelSound, channelsSound, stocks, carsOnChannels, allCars, partsSound, hasStarted}
 use Rattle.run.specs.Calls.{isPair, answer}
 use Rattle.run.specs.Model.{siteOf}
 use Rattle.run.specs.Lists.{after, acceptedCalls}
-use Rattle.run.specs.Claims.{allCars}
 use Rattle.run.specs.declared.Run.{Run}
 use Rattle.run.specs.declared.SiteCall.{SiteCall}
-use Rattle.run.specs.declared.SiteCall.the-variants.{Receive, Send, Start}
+use Rattle.run.specs.declared.SiteCall.the-variants.{Receive, Send, Start, Gate}
+use Rattle.rules.specs.declared.Direction.the-variants.{In, Out}
 use Rattle.run.specs.Opening.{openCall, openedRun, openingAs, termsAs}
 
 -- Three zones with 10, 20 and 30 cars, in an edition.
@@ -65,7 +65,7 @@ Refused = (answer (Receive 3 1) (after full three) .refusal ≡ 10)
 -- The numbers of refusals: where two questions are answered no, that of the first. Zone 1 has 10 cars, its channel to zone 2 is full,
 -- and zone 3 has started.
 abbrev Numbers : Type 0
-Numbers = (openCall (openingAs (termsAs 0 9) []) .refusal ≡ 15) × (openCall (openingAs (termsAs 3 9) []) .refusal ≡ 15)
+Numbers = (openCall (openingAs (termsAs 0 9) []) .refusal ≡ 15) × (openCall (openingAs (termsAs 4 9) []) .refusal ≡ 15)
     × (openCall (openingAs (termsAs 2 9) []) .refusal ≡ 2) × (openCall (openingAs (termsAs 1 2) (65536 ∷ [])) .refusal ≡ 3)
     × (openCall (openingAs (termsAs 2 2) (65535 ∷ 1 ∷ [])) .refusal ≡ 4)
     × (answer (Send 1 1 0) three .refusal ≡ 5) × (answer (Send 1 2 11) (after full three) .refusal ≡ 7)
@@ -86,6 +86,24 @@ Left edition deps events checkpoint =
 abbrev Checks : Type 0
 Checks = Left 1 3 2 true × Left 2 1 0 false
 
-pub computed : Flag × First × Sent × Refused × Numbers × Checks
-unfolding isEdition isTraffic isCount isOn has members requestedBy startedBy itemOf messageWord pushed movedDown popped allFree requestedAll isChannel localSound localsSound channelSound channelsSound stocks carsOnChannels partsSound hasStarted openedRun isPair openCall answer
-computed = ((refl, refl, refl, refl, refl), (refl, refl), (refl, refl, refl), (refl, refl), (refl, refl, refl, refl, refl, refl, refl, refl, refl, refl), ((refl, refl, refl, refl, refl), (refl, refl, refl, refl, refl)))
+-- Gates in edition 3: cars come in and go out, also 0, whether or not the zone has a checkpoint; what is left of zone 1, and the numbers of
+-- refusals. Two zones with 65,535 cars, one of them on a line, let none in, and 1 in after 1 has gone out.
+abbrev gated : List SiteCall
+gated = Gate In 1 3 ∷ Gate Out 2 20 ∷ Gate Out 2 1 ∷ Start 1 ∷ Gate In 1 0 ∷ Gate Out 1 12 ∷ Gate In 4 0 ∷ []
+
+abbrev full-site : Run
+full-site = after (Send 1 2 255 ∷ []) (openCall (openingAs (termsAs 3 2) (65535 ∷ 0 ∷ [])) .run)
+
+abbrev Gates : Type 0
+Gates =
+    (acceptedCalls gated (opened 3) ≡ gate In 0 3 ∷ gate Out 1 20 ∷ start 0 ∷ gate In 0 0 ∷ gate Out 0 12 ∷ [])
+    × (siteOf (after gated (opened 3)) .zone 0 .stock ≡ 1) × (siteOf (after gated (opened 3)) .zone 0 .events ≡ 3)
+    × (siteOf (after gated (opened 3)) .zone 0 .deps ≡ 1) × (allCars (after gated (opened 3)) ≡ 31)
+    × (take 5 (after gated (opened 3) .journal) ≡ 49155 ∷ 51476 ∷ 32768 ∷ 49152 ∷ 49420 ∷ [])
+    × (answer (Gate In 0 0) (opened 2) .refusal ≡ 15) × (answer (Gate Out 4 255) (opened 3) .refusal ≡ 5)
+    × (answer (Gate Out 1 11) (opened 3) .refusal ≡ 7) × (answer (Gate In 2 1) full-site .refusal ≡ 21)
+    × (answer (Gate In 2 0) full-site .refusal ≡ 0) × (answer (Gate In 2 1) (after (Gate Out 1 1 ∷ []) full-site) .refusal ≡ 0)
+
+pub computed : Flag × First × Sent × Refused × Numbers × Checks × Gates
+unfolding isEdition isTraffic hasGates isCount isOn has members requestedBy startedBy itemOf messageWord pushed movedDown popped allFree requestedAll isChannel localSound localsSound channelSound channelsSound stocks carsOnChannels partsSound hasStarted openedRun isPair openCall answer
+computed = ((refl, refl, refl, refl, refl), (refl, refl), (refl, refl, refl), (refl, refl), (refl, refl, refl, refl, refl, refl, refl, refl, refl, refl), ((refl, refl, refl, refl, refl), (refl, refl, refl, refl, refl)), (refl, refl, refl, refl, refl, refl, refl, refl, refl, refl, refl, refl))

@@ -23,7 +23,7 @@ use Rattle.run.proofs.Outcome.{kept}
 use Rattle.run.proofs.Whole.{call-whole}
 use Rattle.run.proofs.Refine.{refine, open-refines}
 use Rattle.run.specs.declared.SiteCall.{SiteCall}
-use Rattle.run.specs.declared.SiteCall.the-variants.{Receive, Send, Start}
+use Rattle.run.specs.declared.SiteCall.the-variants.{Receive, Send, Start, Gate}
 use Rattle.run.specs.declared.Opening.{Opening}
 use Rattle.run.specs.Opening.{openCall}
 
@@ -84,6 +84,7 @@ step-messages (Receive from to) r i j m =
     ∙ ap (λ (l : List Item). takesOff i j (Receive from to) r ++ l) (sym (take-messages a b (siteOf r) i j (siteOf r .channel a b) m))
 step-messages (Start zone) r i j m =
     append-nil (messages (siteOf r .channel i j)) ∙ sym (requests-messages (index zone) _ _ started (siteOf r) i j)
+step-messages (Gate d zone cars) r i j m = append-nil (messages (siteOf r .channel i j))
 
 -- Any run, any list of calls.
 pub fifo-from : (i j : ℕ) (cs : List SiteCall) (r : Run) → WholeRun r → AllTyped cs

@@ -7,6 +7,7 @@ pub mod Parts
 pub mod SetBounds
 pub mod Refine
 pub mod Checks
+pub mod Gates
 pub mod Reach
 pub mod Conserve
 pub mod Sound

@@ -2,8 +2,8 @@
 use mathlib.Core.Path.{_≡_, refl, sym, _∙_, ap, subst}
 use mathlib.Core.Bool.{Bool, true, false, _&&_, not, true≢false}
 use mathlib.Core.Logic.{_≢_, _⊎_, inl, inr}
-use mathlib.Core.List.{List, _∷_, tail}
-use Prim.Native.Nat.{ℕ, _<_, _≤_}
+use mathlib.Core.List.{List, _∷_}
+use Prim.Native.Nat.{ℕ, _+_, _<_, _≤_}
 use native.Mathlib.Omega.{arith}
 use lib.Dec.{eqb, leb}
 use lib.ListN.{length}
@@ -11,7 +11,7 @@ use borrow.Author.Tests.{leb-true, ltb-true, eqb-true, eqb-false, not-true, ne-e
 use Rattle.rules.specs.Edition.{isEdition}
 use Rattle.rules.specs.Limits.{mostCars, mostRecords, places}
 use Rattle.rules.specs.Questions.{ask, index, isCount, isOn, Among}
-use Rattle.rules.specs.Site.{Call, send, receive, start}
+use Rattle.rules.specs.Site.{Call, send, receive, start, gate}
 use Rattle.rules.proofs.Tests.{and-left, and-right}
 use Rattle.rules.proofs.Editions.{first-edition}
 use Rattle.local.specs.Requesting.{startedBy}
@@ -20,18 +20,20 @@ use Rattle.channel.specs.Channels.{channelIndex, lenOf, allFree}
 use Rattle.channel.specs.declared.Channels.{Channels}
 use Rattle.rules.specs.declared.Local.{Local}
 use Rattle.rules.specs.Below.{sum}
-use Rattle.run.specs.State.{zoneAt, isSound, hasStarted, termsOf, countOf}
-use Rattle.run.specs.Calls.{refused, isPair, answer, granted, questions, firstReceived, isNamed, actor, actorIn, ownQuestions}
+use Rattle.run.specs.State.{zoneAt, allCars, isSound, hasStarted, termsOf, editionOf, countOf}
+use Rattle.run.specs.Calls.{refused, isPair, answer, granted, questions, firstReceived, isNamed, actor, editionQuestions, ownQuestions}
 use Rattle.run.specs.Lists.{callOf, isAccepted}
-use Rattle.run.specs.Claims.{ownRefusals, openRefusals, possibleAnswers}
+use Rattle.run.specs.Claims.{ownRefusals, callRefusals, openRefusals}
 use Rattle.run.specs.declared.Run.{Run}
 use Rattle.run.specs.declared.Answer.{Answer}
 use Rattle.run.specs.declared.SiteCall.{SiteCall}
-use Rattle.run.specs.declared.SiteCall.the-variants.{Receive, Send, Start}
+use Rattle.run.specs.declared.SiteCall.the-variants.{Receive, Send, Start, Gate}
+use Rattle.rules.specs.declared.Direction.{Direction}
+use Rattle.rules.specs.declared.Direction.the-variants.{In, Out}
 use Rattle.run.specs.declared.Opening.{Opening}
 use Rattle.run.specs.declared.Terms.{Terms}
 use Rattle.run.specs.Opening.{fallback, openCall, openedRun, openQuestions}
-use Rattle.rules.proofs.AskLaws.{not-among, lacks, AllYes, numbers, ask-cases}
+use Rattle.rules.proofs.AskLaws.{not-among, lacks, AllYes, numbers, yes-both, ask-cases}
 
 -- What the receipt of the first item on the channel from a to b, and what a start by a, makes of the zone of a run that acts.
 abbrev pub gotBy : ℕ → ℕ → Run → Requesting
@@ -51,6 +53,7 @@ abbrev pub Sited : ℕ → Call → Type 0
 Sited count (send a b cars) = Pair count a b
 Sited count (receive a b) = Pair count a b
 Sited count (start a) = a < count
+Sited count (gate d a cars) = a < count
 
 -- What the questions of a call asked, beside 1 and 6.
 abbrev pub Asks : SiteCall → Run → Type 0
@@ -63,12 +66,15 @@ Asks (Receive from to) r =
 Asks (Start zone) r =
     (index zone < countOf (r .head)) × (hasStarted (r .head) ≡ false)
     × (allFree (r .channels) (index zone) (startBy (index zone) r .to) ≡ true)
+Asks (Gate In zone cars) r = (index zone < countOf (r .head)) × (allCars r + cars ≤ mostCars)
+Asks (Gate Out zone cars) r = (index zone < countOf (r .head)) × (cars ≤ zoneAt (r .head) (index zone) .stock)
 
 -- A call answered 0, and every question yes; or it was refused with one of its numbers and handed back the run.
 pub record Passed (c : SiteCall) (r : Run) : Type 0 where
   pub said : isAccepted c r ≡ true
   pub yes : AllYes (questions c r)
   pub sound : isSound r ≡ true
+  pub offered : AllYes (editionQuestions c (editionOf (r .head)))
   pub room : r .head .records < mostRecords
   pub asks : Asks c r
   pub result : answer c r ≡ granted c r
@@ -76,7 +82,7 @@ pub record Passed (c : SiteCall) (r : Run) : Type 0 where
 pub record Refused (c : SiteCall) (r : Run) : Type 0 where
   pub said : isAccepted c r ≡ false
   pub number : ℕ
-  pub among : Among number (tail (possibleAnswers c))
+  pub among : Among number (callRefusals c)
   pub kept : answer c r .run ≡ r
 
 pub zone-sited : (count zone : ℕ) → isOn count zone ≡ true → (1 ≤ zone) × (index zone < count)
@@ -122,6 +128,7 @@ pub named-wider : (count n : ℕ) (c : SiteCall) → count ≤ n → isNamed cou
 named-wider count n (Send from to cars) h e = pair-wider count n from to h e
 named-wider count n (Receive from to) h e = pair-wider count n from to h e
 named-wider count n (Start zone) h e = on-wider count n zone h e
+named-wider count n (Gate d zone cars) h e = on-wider count n zone h e
 
 positive : (n : ℕ) → not (eqb n 0) ≡ true → 0 < n
 positive n e = let d = eqb-false n 0 (not-true (eqb n 0) e) in omega arith
@@ -134,21 +141,31 @@ asks : (c : SiteCall) (r : Run) → AllYes (questions c r) → Asks c r
 asks (Send from to cars) r (s, (p, (h, (e, (f, u))))) = (pair (countOf (r .head)) from to p, leb-true _ _ e, ltb-true _ _ f)
 asks (Receive from to) r (s, (p, (h, (e, (f, u))))) = (pair (countOf (r .head)) from to p, positive _ e, f)
 asks (Start zone) r (s, (p, (h, (e, (f, u))))) = (zone-sited (countOf (r .head)) zone p .1, not-true _ e, f)
+asks (Gate In zone cars) r (s, (g, (p, (h, (e, u))))) = (zone-sited (countOf (r .head)) zone p .1, leb-true _ _ e)
+asks (Gate Out zone cars) r (s, (g, (p, (h, (e, u))))) = (zone-sited (countOf (r .head)) zone p .1, leb-true _ _ e)
 
--- A call's own questions have its numbers; 0 and 20 are none of them.
-pub listed : (c : SiteCall) (t : Terms) (z : Local) (l : Channels) (started : Bool) → numbers (ownQuestions c t z l started) ≡ ownRefusals c
-listed (Send from to cars) t z l started = refl
-listed (Receive from to) t z l started = refl
-listed (Start zone) t z l started = refl
+-- A call's questions have its numbers; 0 and 20 are none of them.
+pub listed : (c : SiteCall) (r : Run) → numbers (questions c r) ≡ callRefusals c
+listed (Send from to cars) r = refl
+listed (Receive from to) r = refl
+listed (Start zone) r = refl
+listed (Gate In zone cars) r = refl
+listed (Gate Out zone cars) r = refl
 
-pub unlisted : (c : SiteCall) → (lacks 0 (ownRefusals c) ≡ true) × (lacks 20 (ownRefusals c) ≡ true)
+pub unlisted : (c : SiteCall) → (lacks 0 (callRefusals c) ≡ true) × (lacks 20 (callRefusals c) ≡ true)
 unlisted (Send from to cars) = (refl, refl)
 unlisted (Receive from to) = (refl, refl)
 unlisted (Start zone) = (refl, refl)
+unlisted (Gate In zone cars) = (refl, refl)
+unlisted (Gate Out zone cars) = (refl, refl)
 
-pub own-nonzero : (c : SiteCall) (t : Terms) (z : Local) (l : Channels) (started : Bool)
-    → lacks 0 (numbers (ownQuestions c t z l started)) ≡ true
-own-nonzero c t z l started = ap (lacks 0) (listed c t z l started) ∙ unlisted c .0
+pub own-nonzero : (c : SiteCall) (t : Terms) (z : Local) (l : Channels) (started : Bool) (held : ℕ)
+    → lacks 0 (numbers (ownQuestions c t z l started held)) ≡ true
+own-nonzero (Send from to cars) t z l started held = refl
+own-nonzero (Receive from to) t z l started held = refl
+own-nonzero (Start zone) t z l started held = refl
+own-nonzero (Gate In zone cars) t z l started held = refl
+own-nonzero (Gate Out zone cars) t z l started held = refl
 
 pub outcome : (c : SiteCall) (r : Run) → Passed c r ⊎ Refused c r
 outcome c r = go (ask-cases (questions c r) (refused r) (granted c r))
@@ -158,19 +175,21 @@ outcome c r = go (ask-cases (questions c r) (refused r) (granted c r))
         → Passed c r ⊎ Refused c r
     go (inl h) =
         let e = answer-is c r ∙ h .1 in
+        let y = yes-both (editionQuestions c (editionOf (r .head))) _ (h .0 .1) in
         inl (record {
           said = ap (λ (x : Answer). eqb (x .refusal) 0) e;
           yes = h .0;
           sound = h .0 .0;
-          room = ltb-true _ _ (h .0 .1 .1 .0);
+          offered = y .0;
+          room = ltb-true _ _ (y .1 .1 .0);
           asks = asks c r (h .0);
           result = e;
         })
     go (inr h) =
         let e = answer-is c r ∙ h .2 in
-        let m = subst (λ (ns : List ℕ). Among (h .0) (1 ∷ 5 ∷ 6 ∷ ns)) (listed c (termsOf (r .head)) (actorIn c r) (r .channels) (hasStarted (r .head))) (h .1) in
+        let m = subst (Among (h .0)) (listed c r) (h .1) in
         inr (record {
-          said = ap (λ (x : Answer). eqb (x .refusal) 0) e ∙ ne-eqb (h .0) 0 (not-among (h .0) 0 (tail (possibleAnswers c)) m (unlisted c .0));
+          said = ap (λ (x : Answer). eqb (x .refusal) 0) e ∙ ne-eqb (h .0) 0 (not-among (h .0) 0 (callRefusals c) m (unlisted c .0));
           number = h .0;
           among = m;
           kept = ap (λ (x : Answer). x .run) e;
@@ -180,12 +199,16 @@ pub sited : (c : SiteCall) (r : Run) → Passed c r → Sited (countOf (r .head)
 sited (Send from to cars) r p = p .asks .0
 sited (Receive from to) r p = p .asks .0
 sited (Start zone) r p = p .asks .0
+sited (Gate In zone cars) r p = p .asks .0
+sited (Gate Out zone cars) r p = p .asks .0
 
 -- The zone that acts in an accepted call is on the site.
 pub acts : (c : SiteCall) (r : Run) → Passed c r → actor c < countOf (r .head)
 acts (Send from to cars) r p = p .asks .0 .from
 acts (Receive from to) r p = p .asks .0 .to
 acts (Start zone) r p = p .asks .0
+acts (Gate In zone cars) r p = p .asks .0
+acts (Gate Out zone cars) r p = p .asks .0
 
 pub passed : (c : SiteCall) (r : Run) → isAccepted c r ≡ true → Passed c r
 passed c r e = go (outcome c r)

@@ -13,8 +13,8 @@ use Rattle.rules.specs.Change.{on, join}
 use Rattle.rules.specs.Limits.{places}
 use Rattle.rules.specs.Questions.{index}
 use Rattle.rules.specs.Sets.{has, nobody}
-use Rattle.rules.specs.Zone.{hasCheckpoint, isPermanent, opened, sentUnder, receivedUnder, started, requested, targets, carried}
-use Rattle.rules.specs.Site.{Item, message, request, Site, sendS, popS, turnS, startS, takeS, stepS, openS}
+use Rattle.rules.specs.Zone.{hasCheckpoint, isPermanent, opened, sentUnder, receivedUnder, gated, started, requested, targets, carried}
+use Rattle.rules.specs.Site.{Item, message, request, Site, sendS, gateS, popS, turnS, startS, takeS, stepS, openS}
 use Rattle.rules.specs.Cut.{May}
 use Rattle.rules.specs.declared.Local.{Local}
 use Rattle.rules.proofs.Tests.{and-left, and-right, both-true, Same, same?}
@@ -39,7 +39,9 @@ use Rattle.run.proofs.Parts.{onSite, between, on-site, zone-on, channel
 use Rattle.run.proofs.SetBounds.{has-lt, targets-deps, targets-other}
 use Rattle.run.specs.declared.SiteCall.{SiteCall}
 use Rattle.run.specs.Opening.{noChannels, openCall, openedRun, openedHead, openingOf, stockAt}
-use Rattle.run.specs.declared.SiteCall.the-variants.{Receive, Send, Start}
+use Rattle.run.specs.declared.SiteCall.the-variants.{Receive, Send, Start, Gate}
+use Rattle.rules.specs.declared.Direction.{Direction}
+use Rattle.rules.specs.declared.Direction.the-variants.{In, Out}
 use Rattle.run.specs.declared.Opening.{Opening}
 use Rattle.rules.proofs.SiteLaws.{site≡}
 
@@ -137,6 +139,11 @@ module _ (r : Run) (w : WholeRun r) (s : SoundRun r) where
       items-pushed (r .channels) a b (w .channels) ha hb x (lt-ltb _ 16 free) i j (between (countOf (r .head)) i j e .near)
       ∙ ap (λ (x : Item). on (eqb i a && eqb j b) (join x) (itemsOn (r .channels) (channelIndex i j))) item)
       (λ i j e. rw (off-pair (countOf (r .head)) a b i j (s .most) p e))
+
+  -- Cars through the gate of a.
+  gated-site : (d : Direction) (a cars word : ℕ) → a < countOf (r .head)
+      → siteOf (accepted r a (gated d cars (zoneAt (r .head) a)) (r .channels) word .run) ≡ gateS d a cars (siteOf r)
+  gated-site d a cars word h = site-changed r a (r .channels) word (gated d cars) (λ i j xs. xs) (w .zones) (s .most) h (λ i j e. refl) (λ i j e. refl)
 
   -- Requests that b sends, over channels l: where there is no target, what they would carry does not matter.
   requests-items : (l : Channels) (b to set i j : ℕ) → Whole l → b < countOf (r .head) → allFree l b to ≡ true → j < 8
@@ -262,6 +269,9 @@ module _ (r : Run) (w : WholeRun r) (s : SoundRun r) where
         λ n. filled x rest (sym n ∙ q),
       )
   granted-site (Start zone) t (p, e, f) = (started-site (index zone) (recordOf (Start zone)) p f, none-permanent e)
+  granted-site (Gate In zone cars) t (p, e) = (gated-site In (index zone) cars (recordOf (Gate In zone cars)) p, omega arith)
+  granted-site (Gate Out zone cars) t (p, e) =
+      (gated-site Out (index zone) cars (recordOf (Gate Out zone cars)) p, subst (λ (z : Local). cars ≤ z .stock) (sym (zone-on r (index zone) p)) e)
 
 pub refine : (c : SiteCall) (r : Run) → WholeRun r → Typed c → isAccepted c r ≡ true
     → (siteOf (answer c r .run) ≡ stepS (callOf c) (siteOf r)) × May (callOf c) (siteOf r)

@@ -14,8 +14,8 @@ use Rattle.rules.specs.Change.{on, join}
 use Rattle.rules.specs.Limits.{mostCars, places}
 use Rattle.rules.specs.Questions.{index}
 use Rattle.rules.specs.Sets.{has, nobody, only}
-use Rattle.rules.specs.Zone.{isPermanent, sentUnder, receivedUnder, started, requested, depsAfter, targets, carried}
-use Rattle.rules.specs.Site.{Item, message, request, Site, Call, send, receive, start, popS, requestAllS, turnS, stepS, takeS}
+use Rattle.rules.specs.Zone.{isPermanent, sentUnder, receivedUnder, gated, started, requested, depsAfter, targets, carried}
+use Rattle.rules.specs.Site.{Item, message, request, Site, Call, send, receive, start, gate, popS, requestAllS, turnS, stepS, takeS}
 use Rattle.rules.specs.declared.Local.{Local}
 use Rattle.rules.specs.declared.Checkpoint.{Checkpoint}
 use Rattle.rules.specs.declared.Checkpoint.the-variants.{None, Mutable, Permanent}
@@ -26,11 +26,11 @@ use Rattle.channel.specs.Words.{setIn}
 use Rattle.channel.specs.Channels.{Whole, channelIndex, lenOf, isFree, pushed, popped, freeBelow, allFree, requestedAll}
 use Rattle.channel.specs.declared.Channels.{Channels}
 use Rattle.channel.proofs.View.{pop-whole, lens-pushed, lens-popped, requested-lens}
-use Rattle.run.specs.State.{setsWithin, isSound, termsOf, countOf}
+use Rattle.run.specs.State.{setsWithin, allCars, isSound, termsOf, countOf}
 use Rattle.run.specs.Calls.{answer, channelsAfter, granted, actorIn}
 use Rattle.run.specs.Model.{siteOf}
 use Rattle.run.specs.Lists.{callOf, after}
-use Rattle.run.specs.Claims.{WholeRun, Typed, AllTyped, allCars}
+use Rattle.run.specs.Claims.{WholeRun, Typed, AllTyped, entering, leaving}
 use Rattle.run.specs.declared.Run.{Run}
 use Rattle.run.specs.declared.Answer.{Answer}
 use Rattle.run.proofs.Outcome.{Sited, sited, Asks, Passed, Refused, outcome, Opened, NotOpened, open-outcome, Fitting, fallback-fits}
@@ -39,9 +39,10 @@ use Rattle.run.proofs.Parts.{onSite, between, on-site, SoundRun, parts,
 use Rattle.run.proofs.SetBounds.{carried-lt}
 use Rattle.run.proofs.Whole.{call-whole, open-whole}
 use Rattle.run.proofs.Refine.{popped-free, refine, none-at, opened-site}
-use Rattle.run.proofs.Conserve.{cars-at, call-conserves, opened-cars}
+use Rattle.run.proofs.Conserve.{cars-at, granted-conserves, opened-cars}
 use Rattle.run.specs.declared.SiteCall.{SiteCall}
-use Rattle.run.specs.declared.SiteCall.the-variants.{Receive, Send, Start}
+use Rattle.run.specs.declared.SiteCall.the-variants.{Receive, Send, Start, Gate}
+use Rattle.rules.specs.declared.Direction.the-variants.{In, Out}
 use Rattle.run.specs.declared.Opening.{Opening}
 use Rattle.run.specs.Opening.{openCall, openedRun, fallback}
 
@@ -67,6 +68,11 @@ events-step (receive a b) s k = go (s .channel a b)
         (popS a b s) (turned set (popS a b s)) (omega arith)
 events-step (start a) s k =
     on-keeps (λ (z : Local). z .events ≤ s .zone k .events + 1) (eqb k a) started (s .zone k) (λ h. h) (omega arith)
+events-step (gate d a cars) s k = go (eqb k a)
+  where
+    go : (t : Bool) → on t (gated d cars) (s .zone k) .events ≤ s .zone k .events + 1
+    go true = omega arith
+    go false = omega arith
 
 -- Dependency sets go on naming zones of the site only.
 received-deps : (n from deps : ℕ) (k : Checkpoint) (flag : Bool) → from < n → deps < 2 ^ n → depsAfter k deps from flag < 2 ^ n
@@ -94,6 +100,7 @@ deps-step n (receive a b) s k p h = go (s .channel a b)
         on-keeps (λ (t : Site). t .zone k .deps < 2 ^ n) (not (isPermanent (s .zone b .checkpoint))) (turnS b set) (popS a b s)
         (turned set (popS a b s)) h
 deps-step n (start a) s k p h = on-keeps (λ (z : Local). z .deps < 2 ^ n) (eqb k a) started (s .zone k) (λ h. h) h
+deps-step n (gate d a cars) s k p h = on-keeps (λ (z : Local). z .deps < 2 ^ n) (eqb k a) (gated d cars) (s .zone k) (λ h. h) h
 
 -- So do the sets of requests.
 within-join : (n : ℕ) (x : Item) (xs : List Item) → setIn x < 2 ^ n → setsWithin n xs ≡ true → setsWithin n (join x xs) ≡ true
@@ -140,6 +147,7 @@ sets-step n (receive a b) s most p d h i j o = go (s .channel a b) refl
 sets-step n (start a) s most p d h i j o =
     requests-sets n a (targets a nobody (s .zone a)) (carried nobody (s .zone a)) started s i j
     (carried-lt n nobody (s .zone a) (d a p) (pow-pos n)) (h i j o)
+sets-step n (gate d a cars) s most p _ h i j o = h i j o
 
 -- No channel gets more items than it has places.
 free-at : (n : ℕ) (l : Channels) (b to j : ℕ) → freeBelow n l b to ≡ true → j < n → has to j ≡ true → lenOf l (channelIndex b j) < places
@@ -200,6 +208,15 @@ lens-step (Receive from to) r w s (p, c, f) i j o =
 lens-step (Start zone) r w s (p, c, f) i j o =
     requests-lens (r .channels) (index zone) _ _ i j (w .channels) (omega (arith, s .most)) f (between (countOf (r .head)) i j o .near)
     (s .lens i j o)
+lens-step (Gate d zone cars) r w s _ i j o = s .lens i j o
+
+-- The cars stay at or below 65,535: question 21 has seen it of an entry.
+few-cars : (c : SiteCall) (r : Run) → Passed c r → allCars r ≤ mostCars → allCars r + entering c ≤ mostCars
+few-cars (Send from to cars) r p h = omega arith
+few-cars (Receive from to) r p h = omega arith
+few-cars (Start zone) r p h = omega arith
+few-cars (Gate In zone cars) r p h = p .asks .1
+few-cars (Gate Out zone cars) r p h = omega arith
 
 -- An accepted call hands back a sound run.
 granted-sound : (c : SiteCall) (r : Run) → WholeRun r → Typed c → Passed c r → SoundRun (granted c r .run)
@@ -207,8 +224,8 @@ granted-sound c r w t p =
     let s = parts r (p .sound) in
     let q : siteOf (granted c r .run) ≡ stepS (callOf c) (siteOf r) =
     ap (λ (x : Answer). siteOf (x .run)) (sym (p .result)) ∙ refine c r w t (p .said) .0 in
-    let cars =
-    sym (cars-at (granted c r .run)) ∙ ap (λ (x : Answer). allCars (x .run)) (sym (p .result)) ∙ call-conserves c r w t ∙ cars-at r in
+    let cars = granted-conserves c r w t p in
+    let few = few-cars c r p (subst (λ (n : ℕ). n ≤ mostCars) (sym (cars-at r)) (s .cars)) in
     record {
       edition = s .edition;
       fewest = s .fewest;
@@ -221,7 +238,7 @@ granted-sound c r w t p =
       lens = lens-step c r w s (p .asks);
       sets = λ i j o. subst (λ (x : Site). setsWithin (countOf (r .head)) (x .channel i j) ≡ true) (sym q)
           (sets-step (countOf (r .head)) (callOf c) (siteOf r) (s .most) (sited c r p) (s .deps) (s .sets) i j o);
-      cars = omega (arith, s .cars);
+      cars = subst (λ (n : ℕ). n ≤ mostCars) (cars-at (granted c r .run)) (omega arith);
     }
 
 pub call-sound : (c : SiteCall) (r : Run) → WholeRun r → Typed c → isSound r ≡ true → isSound (answer c r .run) ≡ true

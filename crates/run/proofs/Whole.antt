@@ -15,7 +15,7 @@ use Rattle.run.specs.declared.Run.{Run}
 use Rattle.run.specs.declared.Answer.{Answer}
 use Rattle.run.proofs.Outcome.{Passed, Refused, outcome, Opened, NotOpened, open-outcome}
 use Rattle.run.specs.declared.SiteCall.{SiteCall}
-use Rattle.run.specs.declared.SiteCall.the-variants.{Receive, Send, Start}
+use Rattle.run.specs.declared.SiteCall.the-variants.{Receive, Send, Start, Gate}
 use Rattle.run.specs.declared.Opening.{Opening}
 use Rattle.run.specs.Opening.{openCall, openedRun, fallback}
 
@@ -24,6 +24,7 @@ channels-whole (Send from to cars) r w = push-whole (r .channels) _ _ w
 channels-whole (Receive from to) r w =
     requested-whole (popped (r .channels) (channelIndex (index from) (index to))) _ _ _ (pop-whole (r .channels) _ w)
 channels-whole (Start zone) r w = requested-whole (r .channels) _ _ _ w
+channels-whole (Gate d zone cars) r w = w
 
 granted-whole : (c : SiteCall) (r : Run) → WholeRun r → WholeRun (granted c r .run)
 granted-whole c r w = record {

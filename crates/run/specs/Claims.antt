@@ -1,19 +1,23 @@
 -- What the claims over calls and lists of calls speak of, beside the calls themselves.
 use mathlib.Core.Path.{_≡_}
-use mathlib.Core.List.{List, [], _∷_}
+use mathlib.Core.Bool.{cond}
+use mathlib.Core.List.{List, [], _∷_, _++_}
 use Prim.Native.Nat.{ℕ, _+_, _≤_, _<_}
 use lib.Dec.{leb, ltb}
 use lib.ListN.{length, take, getD}
 use Rattle.rules.specs.Change.{cons-if}
 use Rattle.rules.specs.Limits.{mostZones, mostRecords, places}
-use Rattle.rules.specs.Questions.{Question, question, refusal}
+use Rattle.rules.specs.Edition.{hasGates}
+use Rattle.rules.specs.Questions.{Question, question, refusal, isOn}
+use Rattle.rules.specs.declared.Direction.{Direction}
+use Rattle.rules.specs.declared.Direction.the-variants.{In, Out}
 use Rattle.channel.specs.Channels.{Whole}
-use Rattle.run.specs.State.{locals, countOf, stocks, carsOnChannels}
-use Rattle.run.specs.Calls.{isPair, recordOf, answer}
+use Rattle.run.specs.State.{locals}
+use Rattle.run.specs.Calls.{isPair, recordOf, ownGateQuestions, answer}
 use Rattle.run.specs.Lists.{isAccepted}
 use Rattle.run.specs.declared.Run.{Run}
 use Rattle.run.specs.declared.SiteCall.{SiteCall}
-use Rattle.run.specs.declared.SiteCall.the-variants.{Send, Receive, Start}
+use Rattle.run.specs.declared.SiteCall.the-variants.{Send, Receive, Start, Gate}
 
 -- The lists of a run have the lengths of its arrays: true of every value of the type.
 pub record WholeRun (r : Run) : Type 0 where
@@ -27,14 +31,35 @@ abbrev pub Typed : SiteCall → Type 0
 Typed (Send from to cars) = cars < 256
 Typed (Receive from to) = Unit {0}
 Typed (Start zone) = Unit {0}
+Typed (Gate direction zone cars) = cars < 256
 
 abbrev pub AllTyped : List SiteCall → Type 0
 AllTyped [] = Unit {0}
 AllTyped (c ∷ cs) = Typed c × AllTyped cs
 
--- "stocks plus cars on lines" of a run.
-abbrev pub allCars : Run → ℕ
-allCars r = stocks (r .head) + carsOnChannels (countOf (r .head)) (r .channels)
+-- The cars that a call brings in from the street, and those that it takes out: of an accepted one.
+abbrev pub entering : SiteCall → ℕ
+entering (Send from to cars) = 0
+entering (Receive from to) = 0
+entering (Start zone) = 0
+entering (Gate In zone cars) = cars
+entering (Gate Out zone cars) = 0
+
+abbrev pub leaving : SiteCall → ℕ
+leaving (Send from to cars) = 0
+leaving (Receive from to) = 0
+leaving (Start zone) = 0
+leaving (Gate In zone cars) = 0
+leaving (Gate Out zone cars) = cars
+
+-- The same of the accepted calls of a list: "entries" and "exits".
+abbrev pub entered : List SiteCall → Run → ℕ
+entered [] r = 0
+entered (c ∷ cs) r = cond (isAccepted c r) (entering c) 0 + entered cs (answer c r .run)
+
+abbrev pub left : List SiteCall → Run → ℕ
+left [] r = 0
+left (c ∷ cs) r = cond (isAccepted c r) (leaving c) 0 + left cs (answer c r .run)
 
 -- What a sound run answers to a hand-over, by the zone count, the number of records, the sender's stock and the channel's length
 -- alone: whether a recording is started is not asked.
@@ -49,15 +74,43 @@ sendQuestions count records stock len from to cars =
 abbrev pub sendRefusal : (count records stock len from to cars : ℕ) → ℕ
 sendRefusal count records stock len from to cars = refusal (sendQuestions count records stock len from to cars)
 
--- The numbers of a call's own questions.
+-- What a sound run answers to a gate call, by the edition, the zone count, the number of records, the zone's stock and the run's stocks plus
+-- cars on lines alone: whether a recording is started is not asked.
+abbrev pub gateQuestions : Direction → (edition count records stock held zone cars : ℕ) → List Question
+gateQuestions direction edition count records stock held zone cars =
+    question 15 (hasGates edition)
+    ∷ question 5 (isOn count zone)
+    ∷ question 6 (ltb records mostRecords)
+    ∷ ownGateQuestions direction cars stock held
+
+abbrev pub gateRefusal : Direction → (edition count records stock held zone cars : ℕ) → ℕ
+gateRefusal direction edition count records stock held zone cars =
+    refusal (gateQuestions direction edition count records stock held zone cars)
+
+-- The numbers of a gate call's last question.
+abbrev pub gateRefusals : Direction → List ℕ
+gateRefusals In = 21 ∷ []
+gateRefusals Out = 7 ∷ []
+
+-- The numbers of a call's own questions, and of those that it asks of its edition.
 abbrev pub ownRefusals : SiteCall → List ℕ
 ownRefusals (Send from to cars) = 7 ∷ 8 ∷ []
 ownRefusals (Receive from to) = 9 ∷ 10 ∷ []
 ownRefusals (Start zone) = 11 ∷ 10 ∷ []
+ownRefusals (Gate direction zone cars) = gateRefusals direction
 
--- The numbers that a call may answer: 0 and those of its list.
+abbrev pub editionRefusals : SiteCall → List ℕ
+editionRefusals (Send from to cars) = []
+editionRefusals (Receive from to) = []
+editionRefusals (Start zone) = []
+editionRefusals (Gate direction zone cars) = 15 ∷ []
+
+-- The numbers with which a call may be refused, those of its list; and 0.
+abbrev pub callRefusals : SiteCall → List ℕ
+callRefusals c = 1 ∷ editionRefusals c ++ (5 ∷ 6 ∷ ownRefusals c)
+
 abbrev pub possibleAnswers : SiteCall → List ℕ
-possibleAnswers c = 0 ∷ 1 ∷ 5 ∷ 6 ∷ ownRefusals c
+possibleAnswers c = 0 ∷ callRefusals c
 
 -- The numbers of an opening's questions.
 abbrev pub openRefusals : List ℕ

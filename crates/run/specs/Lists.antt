@@ -6,19 +6,20 @@ use Prim.Native.Nat.{ℕ}
 use lib.Dec.{eqb}
 use Rattle.rules.specs.Change.{cons-if}
 use Rattle.rules.specs.Questions.{index}
-use Rattle.rules.specs.Site.{Item, message, request, Call, send, receive, start}
+use Rattle.rules.specs.Site.{Item, message, request, Call, send, receive, start, gate}
 use Rattle.rules.specs.Zone.{hasCheckpoint}
 use Rattle.run.specs.Calls.{answer}
 use Rattle.run.specs.Model.{siteOf}
 use Rattle.run.specs.declared.Run.{Run}
 use Rattle.run.specs.declared.SiteCall.{SiteCall}
-use Rattle.run.specs.declared.SiteCall.the-variants.{Send, Receive, Start}
+use Rattle.run.specs.declared.SiteCall.the-variants.{Send, Receive, Start, Gate}
 
 -- The same call with zones by index, as the rules have it.
 abbrev pub callOf : SiteCall → Call
 callOf (Send from to cars) = send (index from) (index to) cars
 callOf (Receive from to) = receive (index from) (index to)
 callOf (Start zone) = start (index zone)
+callOf (Gate direction zone cars) = gate direction (index zone) cars
 
 -- "An accepted call is one that answered 0."
 abbrev pub isAccepted : SiteCall → Run → Bool
@@ -51,11 +52,13 @@ puts i j (Send from to cars) r =
     cond (eqb i (index from) && eqb j (index to)) (message cars (hasCheckpoint (siteOf r .zone i .checkpoint)) ∷ []) []
 puts i j (Receive from to) r = []
 puts i j (Start zone) r = []
+puts i j (Gate direction zone cars) r = []
 
 abbrev pub takesOff : ℕ → ℕ → SiteCall → Run → List Item
 takesOff i j (Send from to cars) r = []
 takesOff i j (Receive from to) r = cond (eqb i (index from) && eqb j (index to)) (firstMessage (siteOf r .channel i j)) []
 takesOff i j (Start zone) r = []
+takesOff i j (Gate direction zone cars) r = []
 
 -- The messages sent on that channel, and those received from it, over a list of calls.
 abbrev pub sentOn : ℕ → ℕ → List SiteCall → Run → List Item

@@ -85,6 +85,9 @@ stocks h = sumBelow (countOf h) (λ i. zoneAt h i .stock)
 unfoldable pub carsOnChannels : ℕ → Channels → ℕ
 carsOnChannels count l = sumBelow (mostChannels) (λ k. cond (isChannel count k) (carsOf (itemsOn l k)) 0)
 
+abbrev pub allCars : Run → ℕ
+allCars r = stocks (r .head) + carsOnChannels (countOf (r .head)) (r .channels)
+
 -- Question 1 over the parts that it looks at, the edition with them ("Questions 1 and 15 allow the editions defined so far"), but neither
 -- saved values in checkpoints nor storage that the site does not have.
 unfoldable pub partsSound : Head → Channels → Bool
