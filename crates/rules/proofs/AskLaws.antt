@@ -54,6 +54,11 @@ pub ask-yes : {A : Type 0} (qs : List Question) (f : ℕ → A) (x : A) → AllY
 ask-yes [] f x h = refl
 ask-yes (q ∷ qs) f x h = rw (h .0) (ask-yes qs f x (h .1))
 
+-- Behind questions that are answered yes, the others decide.
+pub ask-behind : {A : Type 0} (xs ys : List Question) (f : ℕ → A) (x : A) → AllYes xs → ask (xs ++ ys) f x ≡ ask ys f x
+ask-behind [] ys f x h = refl
+ask-behind (q ∷ xs) ys f x h = rw (h .0) (ask-behind xs ys f x (h .1))
+
 -- The first number decides: 0 where every answer is yes, else what is refused with it.
 pub all-yes : (qs : List Question) → lacks 0 (numbers qs) ≡ true → refusal qs ≡ 0 → AllYes qs
 all-yes [] l e = tt

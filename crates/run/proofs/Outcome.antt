@@ -17,13 +17,11 @@ use Rattle.rules.proofs.Editions.{first-edition}
 use Rattle.local.specs.Requesting.{startedBy}
 use Rattle.local.specs.declared.Requesting.{Requesting}
 use Rattle.channel.specs.Channels.{channelIndex, lenOf, allFree}
-use Rattle.channel.specs.declared.Channels.{Channels}
-use Rattle.rules.specs.declared.Local.{Local}
 use Rattle.rules.specs.Below.{sum}
 use Rattle.run.specs.State.{zoneAt, allCars, isSound, hasStarted, termsOf, editionOf, countOf}
-use Rattle.run.specs.Calls.{refused, isPair, answer, granted, questions, firstReceived, isNamed, actor, editionQuestions, ownQuestions}
+use Rattle.run.specs.Calls.{refused, isPair, answer, granted, questions, firstReceived, isNamed, actor, editionQuestions}
 use Rattle.run.specs.Lists.{callOf, isAccepted}
-use Rattle.run.specs.Claims.{ownRefusals, callRefusals, openRefusals}
+use Rattle.run.specs.Claims.{callRefusals, openRefusals}
 use Rattle.run.specs.declared.Run.{Run}
 use Rattle.run.specs.declared.Answer.{Answer}
 use Rattle.run.specs.declared.SiteCall.{SiteCall}
@@ -31,7 +29,6 @@ use Rattle.run.specs.declared.SiteCall.the-variants.{Receive, Send, Star
 use Rattle.rules.specs.declared.Direction.{Direction}
 use Rattle.rules.specs.declared.Direction.the-variants.{In, Out}
 use Rattle.run.specs.declared.Opening.{Opening}
-use Rattle.run.specs.declared.Terms.{Terms}
 use Rattle.run.specs.Opening.{fallback, openCall, openedRun, openQuestions}
 use Rattle.rules.proofs.AskLaws.{not-among, lacks, AllYes, numbers, yes-both, ask-cases}
 
@@ -158,14 +155,6 @@ unlisted (Receive from to) = (refl, refl)
 unlisted (Start zone) = (refl, refl)
 unlisted (Gate In zone cars) = (refl, refl)
 unlisted (Gate Out zone cars) = (refl, refl)
-
-pub own-nonzero : (c : SiteCall) (t : Terms) (z : Local) (l : Channels) (started : Bool) (held : ℕ)
-    → lacks 0 (numbers (ownQuestions c t z l started held)) ≡ true
-own-nonzero (Send from to cars) t z l started held = refl
-own-nonzero (Receive from to) t z l started held = refl
-own-nonzero (Start zone) t z l started held = refl
-own-nonzero (Gate In zone cars) t z l started held = refl
-own-nonzero (Gate Out zone cars) t z l started held = refl
 
 pub outcome : (c : SiteCall) (r : Run) → Passed c r ⊎ Refused c r
 outcome c r = go (ask-cases (questions c r) (refused r) (granted c r))

@@ -2,37 +2,39 @@
 use mathlib.Core.Path.{_≡_, refl, sym, _∙_, ap, subst}
 use mathlib.Core.Bool.{Bool, true, false}
 use mathlib.Core.Logic.{_≢_, _⊎_, inl, inr}
-use mathlib.Core.List.{List, _∷_}
+use mathlib.Core.List.{List, _++_}
 use Prim.Native.Nat.{ℕ, _+_, _<_, _≤_}
 use native.Mathlib.Omega.{arith}
-use borrow.Author.Tests.{ltb-true, lt-ltb, le-ltb, le-leb, lt-leb, eq-eqb, ne-eqb}
-use lib.Dec.{ltb}
+use borrow.Author.Tests.{leb-true, ltb-true, lt-ltb, le-ltb, le-leb, lt-leb, eq-eqb, ne-eqb}
 use lib.ListN.{set}
 use lib.Pow.{pow-mono}
-use Rattle.rules.specs.Limits.{mostRecords}
-use Rattle.rules.specs.Questions.{Question, question, ask, index, Among}
-use Rattle.rules.specs.Zone.{hasCheckpoint, sentUnder}
+use Rattle.rules.specs.Questions.{Question, ask, refusal, index, Among}
+use Rattle.rules.specs.Edition.{hasGates}
+use Rattle.rules.specs.Zone.{hasCheckpoint, sentUnder, needed, through, gated}
+use Rattle.rules.specs.declared.Direction.{Direction}
+use Rattle.rules.specs.declared.Direction.the-variants.{In, Out}
 use Rattle.rules.specs.declared.Local.{Local}
 use Rattle.rules.proofs.Members.{members-zero}
-use Rattle.rules.proofs.AskLaws.{AllYes, numbers, not-among, ask-cases, ask-both}
+use Rattle.rules.proofs.Sums.{sum-at}
+use Rattle.rules.proofs.AskLaws.{AllYes, numbers, lacks, not-among, yes-both, all-yes, ask-yes, ask-refused, ask-behind, ask-cases, ask-both}
 use Rattle.channel.specs.Words.{itemOf, carsIn, setIn, messageWord}
 use Rattle.channel.specs.Channels.{channelsAs, isChannel, channelIndex, lenOf, pushed, popped, firstOf, firstFull, allFree, requestedAll}
 use Rattle.channel.specs.declared.Channels.{Channels}
 use Rattle.channel.proofs.View.{all-free-none}
 use Rattle.local.specs.Requesting.{startedBy}
 use Rattle.local.specs.declared.Requesting.{Requesting}
-use Rattle.run.specs.Calls.{actor, isNamed, itemReceived, ownQuestions, zoneAfter, channelsAfter, refused, granted, answer, firstReceived, recordOf}
-use Rattle.run.specs.State.{runAs, termsOf, partsSound, countOf, zoneAt, putBack, hasStarted}
+use Rattle.run.specs.Calls.{actor, isNamed, itemReceived, editionQuestions, ownGateQuestions, zoneAfter, channelsAfter, refused, granted, answer, firstReceived, recordOf}
+use Rattle.run.specs.State.{runAs, termsOf, partsSound, countOf, zoneAt, putBack, hasStarted, stocks, carsOnChannels}
 use Rattle.run.specs.declared.Answer.{Answer}
 use Rattle.run.specs.declared.Head.{Head}
 use Rattle.run.specs.declared.Run.{Run}
 use Rattle.run.specs.declared.SiteCall.{SiteCall}
-use Rattle.run.specs.declared.SiteCall.the-variants.{Send, Receive, Start}
+use Rattle.run.specs.declared.SiteCall.the-variants.{Send, Receive, Start, Gate}
 use Rattle.run.specs.declared.Terms.{Terms}
-use Rattle.run.proofs.Facts.{channel-at, channel-index-lt, sound-high, sound-events, sound-first, sound-room}
-use Rattle.run.proofs.Outcome.{pair, named-wider, own-nonzero}
-use Rattle.steps.specs.InnerEffect.{Effected, effectAs, unchanged, ownEffect, effect}
-use Rattle.steps.specs.InnerReady.{Stands, Ready, Fits}
+use Rattle.run.proofs.Facts.{channel-at, channel-index-lt, sound-high, sound-events, sound-first, sound-room, sound-total}
+use Rattle.run.proofs.Outcome.{pair, zone-sited, named-wider}
+use Rattle.steps.specs.InnerEffect.{Effected, effectAs, unchanged, outcomeOf, ownEffect, furtherQuestions, effect}
+use Rattle.steps.specs.InnerReady.{Stands, Ready, Weighed, Fits}
 use Rattle.steps.specs.declared.Effect.{Effect}
 
 -- What readiness gives.
@@ -77,23 +79,40 @@ ready-fits terms records (Receive from to) z l r e room =
     )
 ready-fits terms records (Start zone) z l r e room =
     named-wider (terms .count) 8 (Start zone) (ready-high terms records (index zone) z l r) e
+ready-fits terms records (Gate d zone cars) z l r e room =
+    let m = ready-events terms records (index zone) z l r (zone-sited (terms .count) zone e .1) in
+    omega arith
+
+-- The stocks and the cars on lines are at most 65,535, and a zone of the site has no more.
+module _ (terms : Terms) (records at : ℕ) (z : Local) (held : ℕ) (w : Weighed terms records at z held) where
+  pub weighed-few : held ≤ 65535
+  weighed-few = subst (λ (n : ℕ). n ≤ 65535) (sym (w .sum)) (sound-total (w .ready .head) (w .channels) (w .ready .stands .sound))
+
+  pub weighed-stock : at < terms .count → z .stock ≤ held
+  unfolding stocks
+  weighed-stock h =
+      let c = subst (λ (n : ℕ). at < n) (sym (same-count terms records at z (w .channels) (w .ready))) h in
+      let m = subst (λ (y : Local). y .stock ≤ stocks (w .ready .head)) (w .ready .stands .acting)
+      (sum-at (countOf (w .ready .head)) (λ i. zoneAt (w .ready .head) i .stock) at c) in
+      let q = w .sum in
+      omega arith
 
 -- The effect of a hand-over, of a receipt and of a start, question by question.
-module _ (terms : Terms) (from to cars : ℕ) (z : Local) (l : Channels) (started : Bool) where
+module _ (terms : Terms) (from to cars : ℕ) (z : Local) (l : Channels) (started : Bool) (held : ℕ) where
   pub send-7 : (o : Effect) → o ≡ unchanged 7 z → z .stock < cars
-      → record { effect = o; channels = l } ≡ ownEffect (Send from to cars) terms z l started
+      → record { effect = o; channels = l } ≡ ownEffect (Send from to cars) terms z l started held
   unfolding ownEffect
   send-7 o g h = rw (g, lt-leb _ _ h)
 
   pub send-8 : (k : ℕ) (o : Effect) → k ≡ channelIndex (index from) (index to) → o ≡ unchanged 8 z → cars ≤ z .stock → 16 ≤ lenOf l k
-      → record { effect = o; channels = l } ≡ ownEffect (Send from to cars) terms z l started
+      → record { effect = o; channels = l } ≡ ownEffect (Send from to cars) terms z l started held
   unfolding ownEffect
   send-8 k o e g covers h = rw (g, le-leb _ _ covers, le-ltb _ _ (subst (λ (n : ℕ). 16 ≤ lenOf l n) e h))
 
   -- Accepted: the message, with the flag of the sender's checkpoint, is pushed at the channel's index.
   pub send-0 : (k word : ℕ) (flag : Bool) (zone : Local) (after : Channels) → k ≡ channelIndex (index from) (index to) → cars ≤ z .stock
       → lenOf l k < 16 → flag ≡ hasCheckpoint (z .checkpoint) → word ≡ messageWord flag cars → after ≡ pushed l k word → zone ≡ sentUnder (terms .edition) cars z
-      → record { effect = record { refusal = 0; zone = zone }; channels = after } ≡ ownEffect (Send from to cars) terms z l started
+      → record { effect = record { refusal = 0; zone = zone }; channels = after } ≡ ownEffect (Send from to cars) terms z l started held
   unfolding ownEffect
   send-0 k word flag zone after e covers h f g p q = rw (q, p, g, f, e, le-leb _ _ covers, lt-ltb _ _ (subst (λ (n : ℕ). lenOf l n < 16) e h))
 
@@ -114,9 +133,9 @@ none-requested : (l : Channels) (from to set : ℕ) → to ≡ 0 → l ≡ reque
 unfolding requestedAll
 none-requested l from to set h = rw (h, members-zero)
 
-module _ (terms : Terms) (from to : ℕ) (z : Local) (l : Channels) (started : Bool) (k : ℕ) (e : k ≡ channelIndex (index from) (index to)) where
+module _ (terms : Terms) (from to : ℕ) (z : Local) (l : Channels) (started : Bool) (held : ℕ) (k : ℕ) (e : k ≡ channelIndex (index from) (index to)) where
   pub receive-9 : (o : Effect) → o ≡ unchanged 9 z → lenOf l k ≡ 0
-      → record { effect = o; channels = l } ≡ ownEffect (Receive from to) terms z l started
+      → record { effect = o; channels = l } ≡ ownEffect (Receive from to) terms z l started held
   unfolding ownEffect
   receive-9 o g h = rw (g, eq-eqb _ _ (subst (λ (n : ℕ). lenOf l n ≡ 0) e h))
 
@@ -132,72 +151,137 @@ module _ (terms : Terms) (from to : ℕ) (z : Local) (l : Channels) (started : B
     here = subst (λ (n : ℕ). lenOf l n ≢ 0) e holds
 
     pub receive-10 : (o : Effect) → o ≡ unchanged 10 z → full ≢ 0
-        → record { effect = o; channels = l } ≡ ownEffect (Receive from to) terms z l started
+        → record { effect = o; channels = l } ≡ ownEffect (Receive from to) terms z l started held
     unfolding ownEffect
     receive-10 o g h = rw (g, ne-eqb _ _ here, targets-free false (some-full l (index to) (got .to) full search h))
 
     -- Accepted: the item leaves its channel, and the requests join theirs.
     pub receive-0 : (popping after : Channels) → full ≡ 0 → popping ≡ popped l k
         → after ≡ requestedAll popping (index to) (got .to) (got .carried)
-        → record { effect = record { refusal = 0; zone = got .local }; channels = after } ≡ ownEffect (Receive from to) terms z l started
+        → record { effect = record { refusal = 0; zone = got .local }; channels = after } ≡ ownEffect (Receive from to) terms z l started held
     unfolding ownEffect
     receive-0 popping after h p q = rw (q, p, takes, e, ne-eqb _ _ here, targets-free true (none-full l (index to) (got .to) full search h))
 
   -- The same where no request is sent.
   pub receive-quiet : lenOf l k ≢ 0 → (got : Requesting) → got ≡ itemReceived (terms .edition) (index from) (index to) (itemOf (firstOf l k)) z → got .to ≡ 0
       → (popping : Channels) → popping ≡ popped l k
-      → record { effect = record { refusal = 0; zone = got .local }; channels = popping } ≡ ownEffect (Receive from to) terms z l started
+      → record { effect = record { refusal = 0; zone = got .local }; channels = popping } ≡ ownEffect (Receive from to) terms z l started held
   receive-quiet holds got takes h popping p =
       receive-0 holds got takes 0 (none-asked l (index to) (got .to) h) popping popping refl p (none-requested popping (index to) (got .to) (got .carried) h)
 
-module _ (terms : Terms) (zone : ℕ) (z : Local) (l : Channels) (started : Bool) where
+module _ (terms : Terms) (zone : ℕ) (z : Local) (l : Channels) (started : Bool) (held : ℕ) where
   pub start-11 : (o : Effect) → o ≡ unchanged 11 z → started ≡ true
-      → record { effect = o; channels = l } ≡ ownEffect (Start zone) terms z l started
+      → record { effect = o; channels = l } ≡ ownEffect (Start zone) terms z l started held
   unfolding ownEffect
   start-11 o g h = rw (g, h)
 
   module _ (first : started ≡ false) (got : Requesting) (starts : got ≡ startedBy (index zone) z) (full : ℕ)
       (search : full ≡ firstFull l (index zone) (got .to)) where
-    pub start-10 : (o : Effect) → o ≡ unchanged 10 z → full ≢ 0 → record { effect = o; channels = l } ≡ ownEffect (Start zone) terms z l started
+    pub start-10 : (o : Effect) → o ≡ unchanged 10 z → full ≢ 0 → record { effect = o; channels = l } ≡ ownEffect (Start zone) terms z l started held
     unfolding ownEffect
     start-10 o g h =
         rw (g, first, subst (λ (g : Requesting). allFree l (index zone) (g .to) ≡ false) starts (some-full l (index zone) (got .to) full search h))
 
     -- Accepted: the requests join their channels.
     pub start-0 : (after : Channels) → full ≡ 0 → after ≡ requestedAll l (index zone) (got .to) (got .carried)
-        → record { effect = record { refusal = 0; zone = got .local }; channels = after } ≡ ownEffect (Start zone) terms z l started
+        → record { effect = record { refusal = 0; zone = got .local }; channels = after } ≡ ownEffect (Start zone) terms z l started held
     unfolding ownEffect
     start-0 after h q =
         rw (q, starts, first, subst (λ (g : Requesting). allFree l (index zone) (g .to) ≡ true) starts (none-full l (index zone) (got .to) full search h))
 
--- Behind question 1, 5 and 6 are asked of every call alike.
-module _ (c : SiteCall) (terms : Terms) (records : ℕ) (z : Local) (l : Channels) (started : Bool) where
-  pub effect-5 : (o : Effect) → o ≡ unchanged 5 z → isNamed (terms .count) c ≡ false
-      → record { effect = o; channels = l } ≡ effect c terms records z l started
+-- Behind question 1, a gate call asks 15.
+pub gate-15 : (d : Direction) (zone cars : ℕ) (terms : Terms) (records : ℕ) (z : Local) (l : Channels) (started : Bool) (held : ℕ) (o : Effect)
+    → o ≡ unchanged 15 z → hasGates (terms .edition) ≡ false
+    → record { effect = o; channels = l } ≡ effect (Gate d zone cars) terms records z l started held
+unfolding effect
+gate-15 d zone cars terms records z l started held o g e = rw (g, e)
+
+-- Behind that, 5 and 6 are asked of every call alike.
+module _ (c : SiteCall) (terms : Terms) (records : ℕ) (z : Local) (l : Channels) (started : Bool) (held : ℕ)
+    (offered : AllYes (editionQuestions c (terms .edition))) where
+  behind-15 : outcomeOf (furtherQuestions c terms records z l started held) c terms z l ≡ effect c terms records z l started held
   unfolding effect
-  effect-5 o g e = rw (g, e)
+  behind-15 = sym (ask-behind (editionQuestions c (terms .edition)) _ _ _ offered)
+
+  pub effect-5 : (o : Effect) → o ≡ unchanged 5 z → isNamed (terms .count) c ≡ false
+      → record { effect = o; channels = l } ≡ effect c terms records z l started held
+  effect-5 o g e = refused-5 ∙ behind-15
+    where
+      refused-5 : record { effect = o; channels = l } ≡ outcomeOf (furtherQuestions c terms records z l started held) c terms z l
+      refused-5 = rw (g, e)
 
   module _ (named : isNamed (terms .count) c ≡ true) where
-    pub effect-6 : (o : Effect) → o ≡ unchanged 6 z → 1000 ≤ records → record { effect = o; channels = l } ≡ effect c terms records z l started
-    unfolding effect
-    effect-6 o g h = rw (g, named, le-ltb _ _ h)
+    pub effect-6 : (o : Effect) → o ≡ unchanged 6 z → 1000 ≤ records
+        → record { effect = o; channels = l } ≡ effect c terms records z l started held
+    effect-6 o g h = refused-6 ∙ behind-15
+      where
+        refused-6 : record { effect = o; channels = l } ≡ outcomeOf (furtherQuestions c terms records z l started held) c terms z l
+        refused-6 = rw (g, named, le-ltb _ _ h)
 
-    pub behind-6 : records < 1000 → ownEffect c terms z l started ≡ effect c terms records z l started
-    unfolding effect ownEffect
-    behind-6 h = rw (named, lt-ltb _ _ h)
+    pub behind-6 : records < 1000 → ownEffect c terms z l started held ≡ effect c terms records z l started held
+    unfolding ownEffect
+    behind-6 h = roomy ∙ behind-15
+      where
+        roomy : ownEffect c terms z l started held ≡ outcomeOf (furtherQuestions c terms records z l started held) c terms z l
+        roomy = rw (named, lt-ltb _ _ h)
+
+-- A gate call behind 6: its last question, and what is accepted.
+module _ (terms : Terms) (d : Direction) (zone cars : ℕ) (z : Local) (l : Channels) (started : Bool) (held last : ℕ)
+    (asks : last ≡ refusal (ownGateQuestions d cars (z .stock) held)) where
+  pub gate-refused : (o : Effect) → o ≡ unchanged last z → last ≢ 0
+      → record { effect = o; channels = l } ≡ ownEffect (Gate d zone cars) terms z l started held
+  unfolding ownEffect
+  gate-refused o g h =
+      ap (λ (x : Effect). record { effect = x; channels = l }) (g ∙ ap (λ (n : ℕ). unchanged n z) asks)
+      ∙ sym (ask-refused (ownGateQuestions d cars (z .stock) held) _ _ (λ e. h (asks ∙ e)))
+
+  gate-yes : last ≡ 0 → AllYes (ownGateQuestions d cars (z .stock) held)
+  gate-yes e = all-yes (ownGateQuestions d cars (z .stock) held) (nonzero d) (sym asks ∙ e)
+    where
+      nonzero : (d : Direction) → lacks 0 (numbers (ownGateQuestions d cars (z .stock) held)) ≡ true
+      nonzero In = refl
+      nonzero Out = refl
+
+  pub gate-0 : (after : Local) → last ≡ 0 → after ≡ gated d cars z
+      → record { effect = record { refusal = 0; zone = after }; channels = l } ≡ ownEffect (Gate d zone cars) terms z l started held
+  unfolding ownEffect
+  gate-0 after e g =
+      ap (λ (x : Local). record { effect = record { refusal = 0; zone = x }; channels = l }) g
+      ∙ sym (ask-yes (ownGateQuestions d cars (z .stock) held) _ _ (gate-yes e))
+
+  -- The stock stays within 16 bits.
+  pub gate-fits : last ≡ 0 → z .stock ≤ held → held ≤ 65535 → (needed d cars ≤ z .stock) × (through d cars (z .stock) ≤ 65535)
+  gate-fits e h k = go d (gate-yes e)
+    where
+      go : (d : Direction) → AllYes (ownGateQuestions d cars (z .stock) held) → (needed d cars ≤ z .stock) × (through d cars (z .stock) ≤ 65535)
+      go In y = let m = leb-true (held + cars) 65535 (y .0) in (omega arith, omega arith)
+      go Out y = (leb-true cars (z .stock) (y .0), omega arith)
+
+-- 0 is no number of a question.
+further-nonzero : (c : SiteCall) (terms : Terms) (records : ℕ) (z : Local) (l : Channels) (started : Bool) (held : ℕ)
+    → lacks 0 (numbers (editionQuestions c (terms .edition) ++ furtherQuestions c terms records z l started held)) ≡ true
+further-nonzero (Send from to cars) terms records z l started held = refl
+further-nonzero (Receive from to) terms records z l started held = refl
+further-nonzero (Start zone) terms records z l started held = refl
+further-nonzero (Gate In zone cars) terms records z l started held = refl
+further-nonzero (Gate Out zone cars) terms records z l started held = refl
 
 -- The effect of a call on the parts of a run is the call's answer on the run.
-module _ (h : Head) (terms : Terms) (records : ℕ) (c : SiteCall) (z : Local) (l : Channels) (journal : List ℕ) (s : Stands h terms records (actor c) z l) where
+module _ (h : Head) (terms : Terms) (records : ℕ) (c : SiteCall) (z : Local) (l : Channels) (journal : List ℕ) (s : Stands h terms records (actor c) z l)
+    (held : ℕ) (sum : held ≡ stocks h + carsOnChannels (countOf h) l) where
   abbrev run : Run
   run = runAs h l journal
 
   abbrev further : List Question
-  further = question 5 (isNamed (terms .count) c) ∷ question 6 (ltb records mostRecords) ∷ ownQuestions c terms z l (hasStarted h)
+  further = editionQuestions c (terms .edition) ++ furtherQuestions c terms records z l (hasStarted h) held
+
+  nonzero : lacks 0 (numbers further) ≡ true
+  nonzero = further-nonzero c terms records z l (hasStarted h) held
 
   -- Behind 1 these questions decide.
   rest : answer c run ≡ ask further (refused run) (granted c run)
   unfolding answer
-  rest = rw (← s .opened, ← s .number, ← s .acting, s .sound)
+  rest = rw (← s .opened, ← s .number, ← s .acting, s .sound, sum)
 
   abbrev granting : Effected
   granting = record { effect = record { refusal = 0; zone = zoneAfter c terms z l }; channels = channelsAfter c terms z l }
@@ -207,8 +291,8 @@ module _ (h : Head) (terms : Terms) (records : ℕ) (c : SiteCall) (z : Local) (
 
   -- The effect and the answer are accepted together, or refused with the same number.
   abbrev Together : Type 0
-  Together = ((effect c terms records z l (hasStarted h) ≡ granting) × (answer c run ≡ granted c run))
-      ⊎ ((n : ℕ) × (n ≢ 0) × (effect c terms records z l (hasStarted h) ≡ denied n) × (answer c run ≡ refused run n))
+  Together = ((effect c terms records z l (hasStarted h) held ≡ granting) × (answer c run ≡ granted c run))
+      ⊎ ((n : ℕ) × (n ≢ 0) × (effect c terms records z l (hasStarted h) held ≡ denied n) × (answer c run ≡ refused run n))
 
   together : Together
   unfolding effect
@@ -218,9 +302,9 @@ module _ (h : Head) (terms : Terms) (records : ℕ) (c : SiteCall) (z : Local) (
           ⊎ ((n : ℕ) × Among n (numbers further) × (ask further denied granting ≡ denied n) × (ask further (refused run) (granted c run) ≡ refused run n))
           → Together
       go (inl (p, q)) = inl (p, rest ∙ q)
-      go (inr (n, m, p, q)) = inr (n, not-among n 0 (numbers further) m (own-nonzero c terms z l (hasStarted h)), p, rest ∙ q)
+      go (inr (n, m, p, q)) = inr (n, not-among n 0 (numbers further) m nonzero, p, rest ∙ q)
 
-  module _ (made : Effect) (items lens : List ℕ) (e : effectAs made items lens ≡ effect c terms records z l (hasStarted h)) where
+  module _ (made : Effect) (items lens : List ℕ) (e : effectAs made items lens ≡ effect c terms records z l (hasStarted h) held) where
     pub effect-refused : made .refusal ≢ 0 → record { refusal = made .refusal; run = runAs h (channelsAs items lens) journal } ≡ answer c run
     effect-refused d = go together
       where
@@ -235,9 +319,9 @@ module _ (h : Head) (terms : Terms) (records : ℕ) (c : SiteCall) (z : Local) (
       where
         go : (AllYes further × (ask further denied granting ≡ granting)) ⊎ ((n : ℕ) × Among n (numbers further) × (ask further denied granting ≡ denied n))
             → (isNamed (terms .count) c ≡ true) × (records < 1000)
-        go (inl (y, p)) = (y .0, ltb-true _ _ (y .1 .0))
+        go (inl (y, p)) = let v = yes-both (editionQuestions c (terms .edition)) _ y .1 in (v .0, ltb-true _ _ (v .1 .0))
         go (inr (n, m, p)) =
-            absurd (not-among n 0 (numbers further) m (own-nonzero c terms z l (hasStarted h)) (sym (ap (λ (x : Effected). x .effect .refusal) (e ∙ p)) ∙ d))
+            absurd (not-among n 0 (numbers further) m nonzero (sym (ap (λ (x : Effected). x .effect .refusal) (e ∙ p)) ∙ d))
 
     -- The head after an accepted call, and its run with the call's record.
     abbrev after : Head
@@ -270,5 +354,11 @@ module _ (terms : Terms) (records : ℕ) (z : Local) (l : Channels) (c d : SiteC
   pub ready-as : (h : Head) → Stands h terms records (actor c) z l → Ready terms records (actor d) z l
   ready-as h s = record { head = h; stands = subst (λ (d : SiteCall). Stands h terms records (actor d) z l) e s }
 
-  pub effect-as : (started : Bool) (x : Effected) → x ≡ effect d terms records z l started → x ≡ effect c terms records z l started
-  effect-as started x q = q ∙ ap (λ (d : SiteCall). effect d terms records z l started) (sym e)
+  pub weighed-as : (h : Head) (held : ℕ) → Stands h terms records (actor c) z l → held ≡ stocks h + carsOnChannels (countOf h) l
+      → Weighed terms records (actor d) z held
+  unfolding ready-as
+  weighed-as h held s q = record { channels = l; ready = ready-as h s; sum = q }
+
+  pub effect-as : (started : Bool) (held : ℕ) (x : Effected) → x ≡ effect d terms records z l started held
+      → x ≡ effect c terms records z l started held
+  effect-as started held x q = q ∙ ap (λ (d : SiteCall). effect d terms records z l started held) (sym e)

@@ -1,6 +1,6 @@
 -- The effect of a call behind question 1 on the zone that acts and on the channels: the rest of its questions, then what is accepted.
 use mathlib.Core.Bool.{Bool}
-use mathlib.Core.List.{List, _∷_}
+use mathlib.Core.List.{List, _∷_, _++_}
 use Prim.Native.Nat.{ℕ}
 use lib.Dec.{ltb}
 use Rattle.rules.specs.Limits.{mostRecords}
@@ -8,7 +8,7 @@ use Rattle.rules.specs.Questions.{Question, question, ask}
 use Rattle.rules.specs.declared.Local.{Local}
 use Rattle.channel.specs.Channels.{channelsAs}
 use Rattle.channel.specs.declared.Channels.{Channels}
-use Rattle.run.specs.Calls.{isNamed, ownQuestions, zoneAfter, channelsAfter}
+use Rattle.run.specs.Calls.{isNamed, editionQuestions, ownQuestions, zoneAfter, channelsAfter}
 use Rattle.run.specs.declared.SiteCall.{SiteCall}
 use Rattle.run.specs.declared.Terms.{Terms}
 use Rattle.steps.specs.declared.Effect.{Effect}
@@ -31,9 +31,14 @@ outcomeOf qs c t z l =
     (record { effect = record { refusal = 0; zone = zoneAfter c t z l }; channels = channelsAfter c t z l })
 
 -- Behind 6, a call's own questions decide.
-unfoldable pub ownEffect : SiteCall → Terms → Local → Channels → Bool → Effected
-ownEffect c terms z l started = outcomeOf (ownQuestions c terms z l started) c terms z l
+unfoldable pub ownEffect : SiteCall → Terms → Local → Channels → Bool → ℕ → Effected
+ownEffect c terms z l started held = outcomeOf (ownQuestions c terms z l started held) c terms z l
 
-unfoldable pub effect : SiteCall → Terms → ℕ → Local → Channels → Bool → Effected
-effect c terms records z l started =
-    outcomeOf (question 5 (isNamed (terms .count) c) ∷ question 6 (ltb records mostRecords) ∷ ownQuestions c terms z l started) c terms z l
+-- What every call asks alike behind the edition.
+abbrev pub furtherQuestions : SiteCall → Terms → ℕ → Local → Channels → Bool → ℕ → List Question
+furtherQuestions c terms records z l started held =
+    question 5 (isNamed (terms .count) c) ∷ question 6 (ltb records mostRecords) ∷ ownQuestions c terms z l started held
+
+unfoldable pub effect : SiteCall → Terms → ℕ → Local → Channels → Bool → ℕ → Effected
+effect c terms records z l started held =
+    outcomeOf (editionQuestions c (terms .edition) ++ furtherQuestions c terms records z l started held) c terms z l

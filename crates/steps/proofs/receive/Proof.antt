@@ -30,8 +30,8 @@ roomy c = c .before
 abbrev indexed : tie.Else3 → tie.After-channel-index
 indexed c = c .before .before
 
-abbrev held : tie.After-take → tie.Else3
-held c = c .before .before
+abbrev holding : tie.After-take → tie.Else3
+holding c = c .before .before
 
 abbrev taken : tie.Else4 → tie.After-take
 taken c = c .before .before
@@ -68,17 +68,17 @@ no-effect-requires : tie.Need-no-effect-requires
 no-effect-requires c κs = search needs
 
 returns : tie.Need-returns
-returns c = λ started.
+returns c = λ started held.
     let a = c .before .before .before in
-    effect-5 (told a) _ _ _ _ started _ (c .no-effect .ensures) (no (c .before .before .is-pair .ensures) (c .before .if1 .taken))
+    effect-5 (told a) _ _ _ _ started held tt _ (c .no-effect .ensures) (no (c .before .before .is-pair .ensures) (c .before .if1 .taken))
 
 no-effect-requires-2 : tie.Need-no-effect-requires-2
 no-effect-requires-2 c κs = search needs
 
 returns-2 : tie.Need-returns-2
-returns-2 c = λ started.
+returns-2 c = λ started held.
     let n = c .before .before in
-    effect-6 (told (start n)) _ _ _ _ started (is-named n) _ (c .no-effect2 .ensures) (c .before .if2 .taken)
+    effect-6 (told (start n)) _ _ _ _ started held tt (is-named n) _ (c .no-effect2 .ensures) (c .before .if2 .taken)
 
 sub-a : tie.Need-sub-a
 sub-a c = pair-low 8 _ _ (fits c .0) .0
@@ -102,12 +102,12 @@ no-effect-requires-3 : tie.Need-no-effect-requires-3
 no-effect-requires-3 c κs = search needs
 
 returns-3 : tie.Need-returns-3
-returns-3 c = λ started.
+returns-3 c = λ started held.
     let p = c .before .before .before in
     let r = roomy p in
     let n = named r in
-    receive-9 _ _ _ _ _ started _ (p .channel-index .ensures .0) _ (c .no-effect3 .ensures) (c .before .if3 .taken)
-    ∙ behind-6 (told (start n)) _ _ _ _ started (is-named n) (r .if2 .left)
+    receive-9 _ _ _ _ _ started held _ (p .channel-index .ensures .0) _ (c .no-effect3 .ensures) (c .before .if3 .taken)
+    ∙ behind-6 (told (start n)) _ _ _ _ started held tt (is-named n) (r .if2 .left)
 
 mul-word : tie.Need-mul-word
 mul-word c = search needs
@@ -134,36 +134,36 @@ pop-requires : tie.Need-pop-requires
 pop-requires c κs = search needs
 
 returns-4 : tie.Need-returns-4
-returns-4 c = λ started.
+returns-4 c = λ started held.
     let q = c .before .before .before .before in
     let t = q .before .before in
-    let h = held t in
+    let h = holding t in
     let p = indexed h in
     let r = roomy p in
     let n = named r in
-    receive-quiet _ _ _ _ _ started _ (p .channel-index .ensures .0) (h .if3 .left) _ (t .take .ensures) (q .if4 .taken) _ (c .before .pop .ensures .1)
-    ∙ behind-6 (told (start n)) _ _ _ _ started (is-named n) (r .if2 .left)
+    receive-quiet _ _ _ _ _ started held _ (p .channel-index .ensures .0) (h .if3 .left) _ (t .take .ensures) (q .if4 .taken) _ (c .before .pop .ensures .1)
+    ∙ behind-6 (told (start n)) _ _ _ _ started held tt (is-named n) (r .if2 .left)
 
 cast-first-full : tie.Need-cast-first-full
 cast-first-full c = search needs
 
 first-full-requires : tie.Need-first-full-requires
-first-full-requires c κs = pair 8 _ _ (fits (roomy (indexed (held (taken (c .before))))) .0) .to
+first-full-requires c κs = pair 8 _ _ (fits (roomy (indexed (holding (taken (c .before))))) .0) .to
 
 no-effect-requires-4 : tie.Need-no-effect-requires-4
 no-effect-requires-4 c κs = search needs
 
 returns-5 : tie.Need-returns-5
-returns-5 c = λ started.
+returns-5 c = λ started held.
     let f = c .before .before in
     let t = taken (asking f) in
-    let h = held t in
+    let h = holding t in
     let p = indexed h in
     let r = roomy p in
     let n = named r in
-    receive-10 _ _ _ _ _ started _ (p .channel-index .ensures .0) (h .if3 .left) _ (t .take .ensures) _ (f .first-full .ensures _) _
+    receive-10 _ _ _ _ _ started held _ (p .channel-index .ensures .0) (h .if3 .left) _ (t .take .ensures) _ (f .first-full .ensures _) _
     (c .no-effect4 .ensures) (c .before .if5 .taken)
-    ∙ behind-6 (told (start n)) _ _ _ _ started (is-named n) (r .if2 .left)
+    ∙ behind-6 (told (start n)) _ _ _ _ started held tt (is-named n) (r .if2 .left)
 
 pop-requires-2 : tie.Need-pop-requires-2
 pop-requires-2 c κs = search needs
@@ -172,22 +172,22 @@ cast-request-all : tie.Need-cast-request-all
 cast-request-all c = search needs
 
 request-all-requires : tie.Need-request-all-requires
-request-all-requires c κs = pair 8 _ _ (fits (roomy (indexed (held (taken (asking (searched (free (c .before .before)))))))) .0) .to
+request-all-requires c κs = pair 8 _ _ (fits (roomy (indexed (holding (taken (asking (searched (free (c .before .before)))))))) .0) .to
 
 returns-6 : tie.Need-returns-6
-returns-6 c = λ started.
+returns-6 c = λ started held.
     let d = c .before in
     let o = off d in
     let i = free o in
     let f = searched i in
     let t = taken (asking f) in
-    let h = held t in
+    let h = holding t in
     let p = indexed h in
     let r = roomy p in
     let n = named r in
-    receive-0 _ _ _ _ _ started _ (p .channel-index .ensures .0) (h .if3 .left) _ (t .take .ensures) _ (f .first-full .ensures _) _ _
+    receive-0 _ _ _ _ _ started held _ (p .channel-index .ensures .0) (h .if3 .left) _ (t .take .ensures) _ (f .first-full .ensures _) _ _
     (i .if5 .left) (o .pop2 .ensures .1) (d .request-all .ensures)
-    ∙ behind-6 (told (start n)) _ _ _ _ started (is-named n) (r .if2 .left)
+    ∙ behind-6 (told (start n)) _ _ _ _ started held tt (is-named n) (r .if2 .left)
 
 pub receive-spec : {M : Type 1} → statement M
 receive-spec =

@@ -52,26 +52,26 @@ no-effect-requires : tie.Need-no-effect-requires
 no-effect-requires c κs = search needs
 
 returns : tie.Need-returns
-returns c = λ started.
+returns c = λ started held.
     let a = c .before .before .before in
-    effect-5 (told a) _ _ _ _ started _ (c .no-effect .ensures) (no (c .before .before .is-pair .ensures) (c .before .if1 .taken))
+    effect-5 (told a) _ _ _ _ started held tt _ (c .no-effect .ensures) (no (c .before .before .is-pair .ensures) (c .before .if1 .taken))
 
 no-effect-requires-2 : tie.Need-no-effect-requires-2
 no-effect-requires-2 c κs = search needs
 
 returns-2 : tie.Need-returns-2
-returns-2 c = λ started.
+returns-2 c = λ started held.
     let n = c .before .before in
-    effect-6 (told (start n)) _ _ _ _ started (is-named n) _ (c .no-effect2 .ensures) (c .before .if2 .taken)
+    effect-6 (told (start n)) _ _ _ _ started held tt (is-named n) _ (c .no-effect2 .ensures) (c .before .if2 .taken)
 
 no-effect-requires-3 : tie.Need-no-effect-requires-3
 no-effect-requires-3 c κs = search needs
 
 returns-3 : tie.Need-returns-3
-returns-3 c = λ started.
+returns-3 c = λ started held.
     let r = c .before .before .before in
     let n = named r in
-    send-7 _ _ _ _ _ _ started _ (c .no-effect3 .ensures) (c .before .if3 .taken) ∙ behind-6 (told (start n)) _ _ _ _ started (is-named n) (r .if2 .left)
+    send-7 _ _ _ _ _ _ started held _ (c .no-effect3 .ensures) (c .before .if3 .taken) ∙ behind-6 (told (start n)) _ _ _ _ started held tt (is-named n) (r .if2 .left)
 
 sub-channel-index : tie.Need-sub-channel-index
 sub-channel-index c = pair-low 8 _ _ (fits (roomy c) .0) .0
@@ -95,12 +95,12 @@ no-effect-requires-4 : tie.Need-no-effect-requires-4
 no-effect-requires-4 c κs = search needs
 
 returns-4 : tie.Need-returns-4
-returns-4 c = λ started.
+returns-4 c = λ started held.
     let p = indexed (c .before .before) in
     let r = roomy (covered p) in
     let n = named r in
-    send-8 _ _ _ _ _ _ started _ _ (p .channel-index .ensures .0) (c .no-effect4 .ensures) (covered p .if3 .left) (c .before .if4 .taken)
-    ∙ behind-6 (told (start n)) _ _ _ _ started (is-named n) (r .if2 .left)
+    send-8 _ _ _ _ _ _ started held _ _ (p .channel-index .ensures .0) (c .no-effect4 .ensures) (covered p .if3 .left) (c .before .if4 .taken)
+    ∙ behind-6 (told (start n)) _ _ _ _ started held tt (is-named n) (r .if2 .left)
 
 send-requires : tie.Need-send-requires
 send-requires c κs = let v = covered (indexed (c .before)) in (v .if3 .left, fits (roomy v) .1)
@@ -115,16 +115,16 @@ push-requires : tie.Need-push-requires
 push-requires c κs = search needs
 
 returns-5 : tie.Need-returns-5
-returns-5 c = λ started.
+returns-5 c = λ started held.
     let w = c .before .before .before in
     let m = sends (w .before) in
     let f = free m in
     let p = indexed (f .before) in
     let r = roomy (covered p) in
     let n = named r in
-    send-0 _ _ _ _ _ _ started _ _ _ _ _ (p .channel-index .ensures .0) (covered p .if3 .left) (f .if4 .left) (w .before .has-checkpoint .ensures)
+    send-0 _ _ _ _ _ _ started held _ _ _ _ _ (p .channel-index .ensures .0) (covered p .if3 .left) (f .if4 .left) (w .before .has-checkpoint .ensures)
     (w .message-word .ensures) (c .push .ensures) (m .send .ensures)
-    ∙ behind-6 (told (start n)) _ _ _ _ started (is-named n) (r .if2 .left)
+    ∙ behind-6 (told (start n)) _ _ _ _ started held tt (is-named n) (r .if2 .left)
 
 pub send-spec : {M : Type 1} → statement M
 send-spec =

@@ -49,26 +49,26 @@ no-effect-requires : tie.Need-no-effect-requires
 no-effect-requires c κs = search needs
 
 returns : tie.Need-returns
-returns c =
+returns c = λ held.
     let a = c .before .before .before in
-    effect-5 (told a) _ _ _ _ _ _ (c .no-effect .ensures) (no (c .before .before .is-on .ensures) (c .before .if1 .taken))
+    effect-5 (told a) _ _ _ _ _ held tt _ (c .no-effect .ensures) (no (c .before .before .is-on .ensures) (c .before .if1 .taken))
 
 no-effect-requires-2 : tie.Need-no-effect-requires-2
 no-effect-requires-2 c κs = search needs
 
 returns-2 : tie.Need-returns-2
-returns-2 c =
+returns-2 c = λ held.
     let n = c .before .before in
-    effect-6 (told (start n)) _ _ _ _ _ (is-named n) _ (c .no-effect2 .ensures) (c .before .if2 .taken)
+    effect-6 (told (start n)) _ _ _ _ _ held tt (is-named n) _ (c .no-effect2 .ensures) (c .before .if2 .taken)
 
 no-effect-requires-3 : tie.Need-no-effect-requires-3
 no-effect-requires-3 c κs = search needs
 
 returns-3 : tie.Need-returns-3
-returns-3 c =
+returns-3 c = λ held.
     let r = c .before .before in
     let n = named r in
-    start-11 _ _ _ _ _ _ (c .no-effect3 .ensures) (c .before .if3 .taken) ∙ behind-6 (told (start n)) _ _ _ _ _ (is-named n) (r .if2 .left)
+    start-11 _ _ _ _ _ held _ (c .no-effect3 .ensures) (c .before .if3 .taken) ∙ behind-6 (told (start n)) _ _ _ _ _ held tt (is-named n) (r .if2 .left)
 
 sub-a : tie.Need-sub-a
 sub-a c = zone-sited 8 _ (fits (roomy c)) .0
@@ -86,13 +86,13 @@ no-effect-requires-4 : tie.Need-no-effect-requires-4
 no-effect-requires-4 c κs = search needs
 
 returns-4 : tie.Need-returns-4
-returns-4 c =
+returns-4 c = λ held.
     let f = c .before .before in
     let b = begun f in
     let r = roomy (first b) in
     let n = named r in
-    start-10 _ _ _ _ _ (first b .if3 .left) _ (b .start .ensures) _ (f .first-full .ensures _) _ (c .no-effect4 .ensures) (c .before .if4 .taken)
-    ∙ behind-6 (told (start n)) _ _ _ _ _ (is-named n) (r .if2 .left)
+    start-10 _ _ _ _ _ held (first b .if3 .left) _ (b .start .ensures) _ (f .first-full .ensures _) _ (c .no-effect4 .ensures) (c .before .if4 .taken)
+    ∙ behind-6 (told (start n)) _ _ _ _ _ held tt (is-named n) (r .if2 .left)
 
 cast-request-all : tie.Need-cast-request-all
 cast-request-all c = search needs
@@ -101,15 +101,15 @@ request-all-requires : tie.Need-request-all-requires
 request-all-requires c κs = zone-sited 8 _ (fits (roomy (first (begun (c .before .before .before))))) .1
 
 returns-5 : tie.Need-returns-5
-returns-5 c =
+returns-5 c = λ held.
     let d = c .before in
     let i = free d in
     let f = i .before in
     let b = begun f in
     let r = roomy (first b) in
     let n = named r in
-    start-0 _ _ _ _ _ (first b .if3 .left) _ (b .start .ensures) _ (f .first-full .ensures _) _ (i .if4 .left) (d .request-all .ensures)
-    ∙ behind-6 (told (start n)) _ _ _ _ _ (is-named n) (r .if2 .left)
+    start-0 _ _ _ _ _ held (first b .if3 .left) _ (b .start .ensures) _ (f .first-full .ensures _) _ (i .if4 .left) (d .request-all .ensures)
+    ∙ behind-6 (told (start n)) _ _ _ _ _ held tt (is-named n) (r .if2 .left)
 
 pub start-spec : {M : Type 1} → statement M
 start-spec =
