@@ -10,8 +10,8 @@ use lib.ListN.{length, drop, getD, length-append, length-drop}
 use lib.Seq.{length-take-le}
 use borrow.Author.Tests.{eqb-true, ltb-true, ne-eqb}
 use Rattle.rules.specs.Change.{cons-if}
-use Rattle.rules.specs.Zone.{isPermanent, opened, saved, sentUnder, receivedUnder, checkpointAfter, started, requested, madePermanent}
-use Rattle.rules.specs.Site.{Item, message, request, Site, Call, send, receive, start, popS, turnS, stepS, takeS, openS}
+use Rattle.rules.specs.Zone.{isPermanent, opened, saved, sentUnder, receivedUnder, gated, checkpointAfter, started, requested, madePermanent}
+use Rattle.rules.specs.Site.{Item, message, request, Site, Call, send, receive, start, gate, popS, turnS, stepS, takeS, openS}
 use Rattle.rules.specs.Cut.{run, eventsOf, stockOf}
 use Rattle.rules.specs.declared.Local.{Local}
 use Rattle.rules.specs.declared.Saved.{Saved}
@@ -152,6 +152,7 @@ module _ (s : Site) (k m : ℕ) (now : s .zone k .stock ≤ m) (kept : savedStoc
           on-keeps (λ (t : Site). Few (t .zone k)) (not (isPermanent (s .zone b .checkpoint))) (turnS b set) (popS a b s)
           (λ h. on-keeps Few (eqb k b) requested (s .zone k) (stock-made (s .zone k .checkpoint) (saved (s .zone k)) m now) kept) kept
   stock-step (start a) = on-keeps Few (eqb k a) started (s .zone k) (λ h. now) kept
+  stock-step (gate d a cars) = on-keeps Few (eqb k a) (gated d cars) (s .zone k) (λ h. h) kept
 
 stock-now : (r : Run) → SoundRun r → (k : ℕ) → siteOf r .zone k .stock ≤ 65535
 stock-now r s k = go (ltb k (countOf (r .head))) refl

@@ -14,6 +14,7 @@ use Rattle.run.proofs.Whole.{call-whole}
 use Rattle.journal.specs.Format.{decode}
 use Rattle.journal.specs.Reading.{replayed}
 use Rattle.journal.specs.declared.Reading.{Reading}
+use Rattle.journal.proofs.Replays.{has-kind, not-replayed}
 use Rattle.journal.proofs.Words.{record-decoded}
 use Rattle.recording.specs.Call.{ruleCallsIn}
 use Rattle.run.specs.Calls.{recordOf, answer}
@@ -35,11 +36,11 @@ chain (w ∷ ws) position r e = by-record (decode w) refl (chain ws (position + 
         → ((s : Run) → replayed ws (position + 1) s .refusal ≡ 0 → Chain ws s (replayed ws (position + 1) s .run))
         → Chain (w ∷ ws) r (replayed (w ∷ ws) position r .run)
     by-call c true d a more =
-        let q : replayed (w ∷ ws) position r ≡ replayed ws (position + 1) (answer c r .run) = rw (d, a, a) in
+        let q : replayed (w ∷ ws) position r ≡ replayed ws (position + 1) (answer c r .run) = rw (d, has-kind c r a, a, a) in
         let (f, t, n) = record-decoded w c d in
         subst (λ (x : Reading). Chain (w ∷ ws) r (x .run)) (sym q)
         (next c d f t a (more (answer c r .run) (ap (λ (x : Reading). x .refusal) (sym q) ∙ e)))
-    by-call c false d a more = absurd (omega (arith, (rw (d, a) at e)))
+    by-call c false d a more = absurd (not-replayed w ws c position r d a e)
 
     by-record : (x : Record) → decode w ≡ x
         → ((s : Run) → replayed ws (position + 1) s .refusal ≡ 0 → Chain ws s (replayed ws (position + 1) s .run))

@@ -10,8 +10,8 @@ use lib.ListN.{drop, getD}
 use borrow.Author.Tests.{eq-eqb, ne-eqb, le-leb}
 use Rattle.rules.specs.Change.{on, cons-if}
 use Rattle.rules.specs.Questions.{index}
-use Rattle.rules.specs.Site.{Site, Call, send, receive, start, stepS, openS}
-use Rattle.rules.specs.Park.{Move, hand, take, isInside, insideFrom, hands, takes}
+use Rattle.rules.specs.Site.{Site, Call, send, receive, start, gate, stepS, openS}
+use Rattle.rules.specs.Park.{Move, hand, take, pass, isInside, insideFrom, hands, takes}
 use Rattle.rules.specs.Cut.{moves, snapshot}
 use Rattle.rules.specs.declared.Local.{Local}
 use Rattle.rules.proofs.Tests.{both-true, eqb-refl}
@@ -28,16 +28,18 @@ use Rattle.run.proofs.Outcome.{acts, Passed, passed, is-open}
 use Rattle.run.proofs.Parts.{zone-on, parts}
 use Rattle.run.proofs.Refine.{refine, opened-site}
 use Rattle.run.proofs.Whole.{call-whole, opened-whole}
+use Rattle.journal.proofs.Replays.{has-kind}
 use Rattle.journal.specs.InnerOrdinals.{ordinalBy, ordinalOf, ordinalsOf}
 use Rattle.journal.specs.Reading.{replayed}
 use Rattle.recording.specs.Call.{ruleCallsIn}
 use Rattle.recording.specs.Layout.{channelWords}
 use Rattle.recording.specs.InnerRecords.{isIn, sendsOn, takesOn, sentWords, takenCount, itemsAt}
 use Rattle.recording.proofs.Chain.{Chain, done, next, chain}
-use Rattle.recording.proofs.Moved.{eventsIn, actorOf, Quiet, Moved, sent-moves, start-quiet, received-moves, quiet-number, moved-number, insideRest, insideAll, quiet-inside, moved-inside}
+use Rattle.recording.proofs.Moved.{eventsIn, actorOf, Quiet, Moved, sent-moves, start-quiet, gate-moves, received-moves, quiet-number, moved-number, insideRest, insideAll, quiet-inside, moved-inside}
 use Rattle.run.specs.Opening.{openCall, openedRun, openingOf}
 use Rattle.run.specs.declared.SiteCall.{SiteCall}
-use Rattle.run.specs.declared.SiteCall.the-variants.{Send, Receive, Start}
+use Rattle.run.specs.declared.SiteCall.the-variants.{Send, Receive, Start, Gate}
+use Rattle.rules.specs.declared.Direction.{Direction}
 use Rattle.run.specs.declared.Opening.{Opening}
 use Rattle.journal.specs.declared.Record.the-variants.{WellFormed}
 
@@ -45,6 +47,7 @@ same-actor : (c : SiteCall) → actor c ≡ actorOf (callOf c)
 same-actor (Send from to cars) = refl
 same-actor (Receive from to) = refl
 same-actor (Start zone) = refl
+same-actor (Gate d zone cars) = refl
 
 -- The own-event ordinal of an accepted call, by the rules.
 number-is : (c : SiteCall) (r : Run) → WholeRun r → Typed c → isAccepted c r ≡ true
@@ -103,6 +106,15 @@ module _ (i j : ℕ) where
   take-sent : (a b : ℕ) (p : Bool) (ms : List Move) → sentBy (cons-if p (take a b) ms) ≡ sentBy ms
   take-sent a b true ms = refl
   take-sent a b false ms = refl
+
+  -- A gate event is neither.
+  pass-sent : (d : Direction) (a cars : ℕ) (p : Bool) (ms : List Move) → sentBy (cons-if p (pass d a cars) ms) ≡ sentBy ms
+  pass-sent d a cars true ms = refl
+  pass-sent d a cars false ms = refl
+
+  pass-taken : (d : Direction) (a cars : ℕ) (p : Bool) (ms : List Move) → takes i j (cons-if p (pass d a cars) ms) ≡ takes i j ms
+  pass-taken d a cars true ms = refl
+  pass-taken d a cars false ms = refl
 
   hand-taken : (a b cars : ℕ) (p : Bool) (ms : List Move) → takes i j (cons-if p (hand a b cars) ms) ≡ takes i j ms
   hand-taken a b cars true ms = refl
@@ -205,6 +217,10 @@ module _ (i j : ℕ) where
       sends-first (Start zone) t e =
           rw (no-send (recordOf (Start zone)) (ordinalOf (WellFormed (Start zone)) r) (omega arith))
           (ap sentBy (quiet-inside shown (start (index zone)) cs (siteOf r) (start-quiet (index zone) (siteOf r))))
+      sends-first (Gate d zone cars) t e =
+          rw (no-send (recordOf (Gate d zone cars)) (ordinalOf (WellFormed (Gate d zone cars)) r) (omega arith))
+          (ap sentBy (moved-inside shown (gate d (index zone) cars) cs (siteOf r) (pass d (index zone) cars) (gate-moves d (index zone) cars (siteOf r)))
+          ∙ pass-sent d (index zone) cars (isInside shown (eventsIn (siteOf r)) (pass d (index zone) cars)) (insideRest shown (gate d (index zone) cars) cs (siteOf r)))
 
       abbrev Takes : SiteCall → Type 0
       Takes c =
@@ -255,6 +271,10 @@ module _ (i j : ℕ) where
       takes-first (Start zone) t e =
           rw (no-take (recordOf (Start zone)) (ordinalOf (WellFormed (Start zone)) r) (inr (omega arith)))
           (ap (takes i j) (quiet-inside shown (start (index zone)) cs (siteOf r) (start-quiet (index zone) (siteOf r))))
+      takes-first (Gate d zone cars) t e =
+          rw (no-take (recordOf (Gate d zone cars)) (ordinalOf (WellFormed (Gate d zone cars)) r) (inr (omega arith)))
+          (ap (takes i j) (moved-inside shown (gate d (index zone) cars) cs (siteOf r) (pass d (index zone) cars) (gate-moves d (index zone) cars (siteOf r)))
+          ∙ pass-taken d (index zone) cars (isInside shown (eventsIn (siteOf r)) (pass d (index zone) cars)) (insideRest shown (gate d (index zone) cars) cs (siteOf r)))
 
     -- Records that are accepted in turn.
     pub sent-are : {ws : List ℕ} {r t : Run} → Chain ws r t → WholeRun r
@@ -263,7 +283,7 @@ module _ (i j : ℕ) where
     sent-are (next {w = word} {ws} {r} c d f typed a more) w =
         let q = refine c r w typed a .0 in
         let h = sent-are more (call-whole c r w) in
-        rw (d, a, ← f)
+        rw (d, has-kind c r a, a, ← f)
         (sends-first r w (ruleCallsIn ws) c typed a
         ∙ ap (cons-if (sendsOn (channelIndex i j) sh (recordOf c) (ordinalOf (WellFormed c) r)) (recordOf c))
         (ap (λ (s : Site). sentBy (insideOf shown ws s)) (sym q) ∙ h))
@@ -274,7 +294,7 @@ module _ (i j : ℕ) where
     taken-are (next {w = word} {ws} {r} c d f typed a more) w =
         let q = refine c r w typed a .0 in
         let h = taken-are more (call-whole c r w) in
-        rw (d, a, ← f)
+        rw (d, has-kind c r a, a, ← f)
         (takes-first r w (ruleCallsIn ws) c typed a
         ∙ ap (on (takesOn (channelIndex i j) sh (recordOf c) (ordinalOf (WellFormed c) r)) suc)
         (ap (λ (s : Site). takes i j (insideOf shown ws s)) (sym q) ∙ h))

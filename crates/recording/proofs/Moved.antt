@@ -11,11 +11,12 @@ use lib.Dec.{eqb}
 use borrow.Author.Tests.{ne-eqb}
 use Rattle.rules.specs.Change.{cons-if}
 use Rattle.rules.specs.Edition.{isTraffic}
-use Rattle.rules.specs.Zone.{isPermanent, sentUnder, receivedUnder, started, requested}
-use Rattle.rules.specs.Site.{Item, message, request, Site, Call, send, receive, start, popS, turnS, stepS, takeS}
-use Rattle.rules.specs.Park.{Move, hand, take, owner, isInside, counted, insideFrom}
+use Rattle.rules.specs.Zone.{isPermanent, sentUnder, receivedUnder, gated, started, requested}
+use Rattle.rules.specs.Site.{Item, message, request, Site, Call, send, receive, start, gate, popS, turnS, stepS, takeS}
+use Rattle.rules.specs.Park.{Move, hand, take, pass, owner, isInside, counted, insideFrom}
 use Rattle.rules.specs.Cut.{taking, moveOf, moves}
 use Rattle.rules.specs.declared.Local.{Local}
+use Rattle.rules.specs.declared.Direction.{Direction}
 use Rattle.rules.proofs.Editions.{sent-traffic, sent-check, received-traffic, received-check}
 use Rattle.rules.proofs.Guarded.{on-same, on-map}
 use Rattle.rules.proofs.Tests.{eqb-refl}
@@ -33,6 +34,7 @@ abbrev pub actorOf : Call → ℕ
 actorOf (send a b cars) = a
 actorOf (receive a b) = b
 actorOf (start a) = a
+actorOf (gate d a cars) = a
 
 -- The call is no move, or it is one of the zone that acts.
 pub record Quiet (c : Call) (s : Site) : Type 0 where
@@ -65,6 +67,13 @@ pub start-quiet : (a : ℕ) (s : Site) → Quiet (start a) s
 start-quiet a s = record {
   none = refl;
   same = λ k. on-same (λ (z : Local). z .events) (eqb k a) started (s .zone k) refl;
+}
+
+pub gate-moves : (d : Direction) (a cars : ℕ) (s : Site) → Moved (gate d a cars) s (pass d a cars)
+gate-moves d a cars s = record {
+  one = refl;
+  by = refl;
+  more = λ k. on-map events (eqb k a) (gated d cars) suc (s .zone k) (add-one _);
 }
 
 pub received-moves : (a b : ℕ) (s : Site) → Quiet (receive a b) s ⊎ Moved (receive a b) s (take a b)

@@ -14,24 +14,24 @@ use Rattle.run.specs.declared.Run.{Run}
 use Rattle.run.proofs.Whole.{after-whole, open-whole}
 use Rattle.journal.specs.Format.{callsIn}
 use Rattle.journal.specs.Reading.{recordsIn, readCall, openingIn}
-use Rattle.journal.specs.Writing.{Output, refusedOutput, writtenOutput}
+use Rattle.journal.specs.Writing.{writtenOutput}
 use Rattle.journal.proofs.Accepted.{read-comes, read-replayed}
-use Rattle.recording.specs.Call.{noRequests, snapshotOf, recordCall}
+use Rattle.recording.specs.Call.{noRequests, snapshotOf, RecordOutput, withTotal, notRecorded, recordedTotal, recordCall}
 use Rattle.recording.specs.Layout.{mostRecordingBytes, recordingBytes}
 use Rattle.recording.proofs.Sized.{recording-most}
 use Rattle.run.specs.Calls.{answer}
 
 -- What is left of the recording call's questions.
-abbrev asked : Bool → Bool → Bool → List ℕ → Output → Output
-asked started free enough lent x = cond started (cond free (cond enough x (refusedOutput lent 14)) (refusedOutput lent 13)) (refusedOutput lent 12)
+abbrev asked : Bool → Bool → Bool → List ℕ → RecordOutput → RecordOutput
+asked started free enough lent x = cond started (cond free (cond enough x (notRecorded lent 14)) (notRecorded lent 13)) (notRecorded lent 12)
 
-never-1 : (a b c : Bool) (lent : List ℕ) (x : Output) → x .answer .refusal ≡ 0 → asked a b c lent x .answer .refusal ≢ 1
+never-1 : (a b c : Bool) (lent : List ℕ) (x : RecordOutput) → x .answer .refusal ≡ 0 → asked a b c lent x .answer .refusal ≢ 1
 never-1 true true true lent x e h = absurd (omega (arith, e, h))
 never-1 true true false lent x e h = absurd (omega (arith, h))
 never-1 true false c lent x e h = absurd (omega (arith, h))
 never-1 false b c lent x e h = absurd (omega (arith, h))
 
-never-14 : (a b : Bool) (lent : List ℕ) (x : Output) → x .answer .refusal ≡ 0 → asked a b true lent x .answer .refusal ≢ 14
+never-14 : (a b : Bool) (lent : List ℕ) (x : RecordOutput) → x .answer .refusal ≡ 0 → asked a b true lent x .answer .refusal ≢ 14
 never-14 true true lent x e h = absurd (omega (arith, e, h))
 never-14 true false lent x e h = absurd (omega (arith, h))
 never-14 false b lent x e h = absurd (omega (arith, h))
@@ -47,7 +47,7 @@ module _ (bytes lent : List ℕ) (e : readCall bytes .refusal ≡ 0) where
   unfolding recordCall
   read-never-1 =
       rw (read-replayed bytes e)
-      (never-1 (hasStarted (read .head)) (noRequests (countOf (read .head)) (read .channels)) (leb (length shown) (length lent)) lent (writtenOutput lent shown) refl)
+      (never-1 (hasStarted (read .head)) (noRequests (countOf (read .head)) (read .channels)) (leb (length shown) (length lent)) lent (withTotal (recordedTotal read) (writtenOutput lent shown)) refl)
 
   pub read-whole : WholeRun read
   read-whole = let h = read-comes bytes e in subst WholeRun (sym (h .result)) (after-whole (callsIn (recordsIn bytes)) _ (open-whole (openingIn bytes)))
@@ -57,4 +57,4 @@ module _ (bytes lent : List ℕ) (e : readCall bytes .refusal ≡ 0) where
   read-never-14 h =
       let m = recording-most read read-whole (read-replayed bytes e) in
       rw (read-replayed bytes e, le-leb (length shown) (length lent) (omega (arith, m, h)))
-      (never-14 (hasStarted (read .head)) (noRequests (countOf (read .head)) (read .channels)) lent (writtenOutput lent shown) refl)
+      (never-14 (hasStarted (read .head)) (noRequests (countOf (read .head)) (read .channels)) lent (withTotal (recordedTotal read) (writtenOutput lent shown)) refl)

@@ -11,9 +11,11 @@ use lib.ListN.{length, drop, getD, length-append, List·getD-append, List·getD-
 use lib.Seq.{drop-nil, getD-append-add}
 use borrow.Author.Tests.{ltb-true, ltb-false, le-ltb, le-leb, lt-leb, ne-eqb}
 use Rattle.rules.specs.Change.{cons-if}
+use Rattle.rules.specs.Below.{sum, sumBelow}
+use Rattle.rules.proofs.Sums.{sum-same, sum-zero, sums}
 use Rattle.rules.specs.Zone.{isPermanent}
-use Rattle.rules.specs.Site.{Item, message, request, Site, Call, send, receive, start, stepS}
-use Rattle.rules.specs.Park.{Move, hand, take, counted, isInside, insideFrom, inside, hands, takes}
+use Rattle.rules.specs.Site.{Item, message, request, Site, Call, send, receive, start, gate, stepS}
+use Rattle.rules.specs.Park.{Move, hand, take, pass, total, counted, isInside, insideFrom, inside, hands, takes}
 use Rattle.rules.specs.Edition.{isTraffic}
 use Rattle.rules.specs.Cut.{Snapshot, Cut, run, moves, taking, eventsOf, stockOf}
 use Rattle.rules.proofs.Consistency.{consistent}
@@ -25,7 +27,8 @@ use Rattle.run.specs.Layout.{sendRecord}
 use Rattle.run.specs.State.{hasStarted, editionOf, countOf, termsOf}
 use Rattle.run.specs.declared.Answer.{Answer}
 use Rattle.run.specs.declared.Run.{Run}
-use Rattle.run.proofs.BelowLaws.{split}
+use Rattle.run.proofs.BelowLaws.{split, sum-end}
+use Rattle.run.proofs.IndexLaws.{sum-zone}
 use Rattle.run.proofs.Outcome.{Pair, Sited, sited, passed, is-open}
 use Rattle.run.proofs.Parts.{onSite, between, on-site}
 use Rattle.words.specs.Bytes.{wordAt, wordsFrom}
@@ -33,9 +36,10 @@ use Rattle.journal.specs.Format.{openedWith, openingStocks, headerOf}
 use Rattle.journal.specs.Writing.{isReplayed}
 use Rattle.words.proofs.ByteLaws.{word-read, words-read-from}
 use Rattle.journal.proofs.Words.{header-fields}
-use Rattle.recording.specs.Call.{ruleCallsIn, snapshotOf, noRequests}
+use Rattle.recording.specs.Call.{ruleCallsIn, snapshotOf, recordedTotal, noRequests}
 use Rattle.recording.specs.Layout.{joinBelow, zoneWords, channelWords, itemWords, recordingWords, recordingBytes}
 use Rattle.recording.specs.Shown.{zoneWord, stockWord, itemsIn, carsShown, shownIn}
+use Rattle.recording.specs.InnerTotal.{wordCars, totalIn}
 use Rattle.recording.proofs.Bounds.{run-sound, items-number, events-few, cars-few, words-on}
 use Rattle.recording.proofs.Chain.{Chain, done, next, chain}
 use Rattle.recording.proofs.Complete.{complete-if}
@@ -129,6 +133,63 @@ event-bits : (b : Bool) (n : ℕ) → n < 1024 → (cond b 32768 0 + n) % 1024 �
 event-bits true n h = omega arith
 event-bits false n h = omega arith
 
+-- The cars of the words of all items are those on the channels.
+word-cars-append : (xs ys : List ℕ) → wordCars (xs ++ ys) ≡ wordCars xs + wordCars ys
+word-cars-append [] ys = omega arith
+word-cars-append (x ∷ xs) ys = let q = word-cars-append xs ys in omega arith
+
+word-cars-join : (n : ℕ) (f : ℕ → List ℕ) → wordCars (joinBelow n f) ≡ sumBelow n (λ k. wordCars (f k))
+word-cars-join zero f = refl
+word-cars-join (suc n) f = let q = word-cars-join n f in omega (arith, word-cars-append (joinBelow n f) (f n))
+
+word-cars-sent : (i j : ℕ) (cs : List ℕ) → All (λ c. c < 256) cs → wordCars (map (sendRecord i j) cs) ≡ sum cs
+word-cars-sent i j [] h = refl
+word-cars-sent i j (c ∷ cs) h =
+    let b = h .0 in
+    let e : sendRecord i j c % 256 ≡ c = omega arith in
+    let q = word-cars-sent i j cs (h .1) in
+    omega arith
+
+-- A sum over the indices for channels, zone by zone.
+sum-rows : (n : ℕ) (f : ℕ → ℕ) → sumBelow (n * 8) f ≡ sumBelow n (λ i. sumBelow 8 (λ j. f (channelIndex i j)))
+sum-rows zero f = refl
+sum-rows (suc n) f = let e : suc n ≡ n + 1 = omega arith in rw e (sym (sum-zone f n _ _ (sym (sum-rows n f)) refl))
+
+items-total : (count : ℕ) (s : Snapshot) → Fits count s → wordCars (itemWords count s) ≡ sums count (λ i j. sum (s .park .channel i j))
+unfolding itemWords
+items-total count s fits =
+    word-cars-join 64 (λ k. cond (isChannel count k) (channelWords s k) [])
+    ∙ sum-same 64 (λ k. wordCars (cond (isChannel count k) (channelWords s k) [])) (λ k. sum (s .park .channel (k / 8) (k % 8)))
+    (λ k h. at k h (isChannel count k) refl)
+    ∙ sum-rows 8 (λ k. sum (s .park .channel (k / 8) (k % 8)))
+    ∙ sum-same 8 (λ i. sumBelow 8 (λ j. sum (s .park .channel (channelIndex i j / 8) (channelIndex i j % 8)))) (λ i. sumBelow count (λ j. sum (s .park .channel i j)))
+    (λ i hi. row i hi)
+    ∙ sum-end count 8 (λ i. sumBelow count (λ j. sum (s .park .channel i j))) (fits .most) (λ i low high. sum-zero count _ (λ j. none i j (inl low)))
+  where
+    none : (i j : ℕ) → (count ≤ i) ⊎ (count ≤ j) → sum (s .park .channel i j) ≡ 0
+    none i j o = ap sum (fits .channel-off i j (off (onSite count i j) refl o))
+      where
+        off : (p : Bool) → onSite count i j ≡ p → (count ≤ i) ⊎ (count ≤ j) → p ≡ false
+        off true e (inl h) = let b = between count i j e .from in absurd (omega arith)
+        off true e (inr h) = let b = between count i j e .to in absurd (omega arith)
+        off false e h = refl
+
+    at : (k : ℕ) → k < 64 → (p : Bool) → isChannel count k ≡ p
+        → wordCars (cond p (channelWords s k) []) ≡ sum (s .park .channel (k / 8) (k % 8))
+    at k h true e = word-cars-sent (k / 8) (k % 8) (s .park .channel (k / 8) (k % 8)) (fits .cars (k / 8) (k % 8) (omega arith) (omega arith))
+    at k h false e =
+        let q : channelIndex (k / 8) (k % 8) ≡ k = omega arith in
+        sym (ap sum (fits .channel-off (k / 8) (k % 8) (rw (q, e) (and-false (ltb (k % 8) 8)))))
+
+    row : (i : ℕ) → i < 8
+        → sumBelow 8 (λ j. sum (s .park .channel (channelIndex i j / 8) (channelIndex i j % 8))) ≡ sumBelow count (λ j. sum (s .park .channel i j))
+    row i hi =
+        sum-same 8 (λ j. sum (s .park .channel (channelIndex i j / 8) (channelIndex i j % 8))) (λ j. sum (s .park .channel i j)) (λ j hj.
+        let x : channelIndex i j / 8 ≡ i = omega arith in
+        let y : channelIndex i j % 8 ≡ j = omega arith in
+        rw (x, y))
+        ∙ sum-end count 8 (λ j. sum (s .park .channel i j)) (fits .most) (λ j low high. none i j (inr low))
+
 module _ (t : Terms) (s : Snapshot) (fits : Fits (t .count) s) (on : (k : ℕ) → k < 64 → All (λ w. w / 256 ≡ k) (channelWords s k)) (rest : List ℕ) where
   abbrev count : ℕ
   count = t .count
@@ -203,6 +264,16 @@ module _ (t : Terms) (s : Snapshot) (fits : Fits (t .count) s) (on : (k : ℕ) �
       go true e = stock-read k (ltb-true k count e)
       go false e = sym (fits .stock-off k (ltb-false k count e))
 
+  -- The stocks and the items that they show have the total of the recording.
+  pub total-is : totalIn (t .count) (length (itemWords (t .count) s)) (recordingBytes t s ++ rest) ≡ total (t .count) (s .park)
+  unfolding totalIn shownBytes recordingBytes
+  total-is =
+      let front = headerOf t (length (itemWords count s)) ∷ joinBelow count (zoneWords s) in
+      let e : 2 + 4 * count ≡ 2 * length front = omega (arith, zones-length count s) in
+      ap₂ _+_ (sum-same count (stockWord shownBytes) (s .park .stock) stock-read)
+      (ap (λ (at : ℕ). wordCars (wordsFrom shownBytes at (length (itemWords count s)))) e
+      ∙ ap wordCars (words-read-from front (itemWords count s) rest) ∙ items-total count s fits)
+
   cars-read : (i j : ℕ) → i < 8 → j < 8 → carsShown (channelIndex i j) (itemWords count s) ≡ s .park .channel i j
   unfolding itemWords
   cars-read i j hi hj =
@@ -251,12 +322,18 @@ module _ (count i j : ℕ) (most : count ≤ 8) (off : onSite count i j ≡ fals
   abbrev Elsewhere : Move → Type 0
   Elsewhere (hand a b cars) = eqb i a && eqb j b ≡ false
   Elsewhere (take a b) = Unit {0}
+  Elsewhere (pass d a cars) = Unit {0}
 
   elsewhere : (a b : ℕ) → Pair count a b → (p : Bool) → eqb i a && eqb j b ≡ p → p ≡ false
   elsewhere a b h true e =
       let (x, y) = both-true i a j b e in
       absurd (true≢false (sym (rw (x, y) (on-site count a b most (h .from) (h .to) (h .apart))) ∙ off))
   elsewhere a b h false e = refl
+
+  -- A move that hands nothing over.
+  not-handed : (p : Bool) (m : Move) (ms : List Move) → hands i j (m ∷ ms) ≡ hands i j ms → hands i j ms ≡ [] → hands i j (cons-if p m ms) ≡ []
+  not-handed true m ms e q = e ∙ q
+  not-handed false m ms e q = q
 
   none-handed : (shown n : ℕ → ℕ) (ms : List Move) → All Elsewhere ms → hands i j (insideFrom shown n ms) ≡ []
   none-handed shown n [] h = refl
@@ -266,12 +343,10 @@ module _ (count i j : ℕ) (most : count ≤ 8) (off : onSite count i j ≡ fals
           → hands i j (cons-if p (hand a b cars) (insideFrom shown (counted n (hand a b cars)) ms)) ≡ []
       go true q = rw (h .0) q
       go false q = q
-  none-handed shown n (take a b ∷ ms) h = go (isInside shown n (take a b)) (none-handed shown (counted n (take a b)) ms (h .1))
-    where
-      go : (p : Bool) → hands i j (insideFrom shown (counted n (take a b)) ms) ≡ []
-          → hands i j (cons-if p (take a b) (insideFrom shown (counted n (take a b)) ms)) ≡ []
-      go true q = q
-      go false q = q
+  none-handed shown n (take a b ∷ ms) h =
+      not-handed (isInside shown n (take a b)) (take a b) _ refl (none-handed shown (counted n (take a b)) ms (h .1))
+  none-handed shown n (pass d a cars ∷ ms) h =
+      not-handed (isInside shown n (pass d a cars)) (pass d a cars) _ refl (none-handed shown (counted n (pass d a cars)) ms (h .1))
 
   elsewhere-if : (p : Bool) (m : Move) (ms : List Move) → Elsewhere m → All Elsewhere ms → All Elsewhere (cons-if p m [] ++ ms)
   elsewhere-if true m ms h q = (h, q)
@@ -289,6 +364,7 @@ module _ (count i j : ℕ) (most : count ≤ 8) (off : onSite count i j ≡ fals
       go (message cars flag ∷ xs) q = elsewhere-if (isTraffic (s .edition) cars) (take a b) _ tt q
       go (request set ∷ xs) q = q
   moves-elsewhere (start a ∷ cs) s h = moves-elsewhere cs (stepS (start a) s) (h .1)
+  moves-elsewhere (gate d a cars ∷ cs) s h = (tt, moves-elsewhere cs (stepS (gate d a cars) s) (h .1))
 
 module _ (r : Run) (w : WholeRun r) (e : isReplayed r ≡ true) where
   all-sited : All (Sited (countOf (r .head))) (ruleCallsIn (wordsAt r))
@@ -324,6 +400,12 @@ module _ (r : Run) (w : WholeRun r) (e : isReplayed r ≡ true) where
   -- The bytes that are written, and what is behind them, show the recording of the rules.
   pub recording-shows : (rest : List ℕ) → shownIn (recordingBytes (termsOf (r .head)) (snapshotOf r) ++ rest) ≡ snapshotOf r
   recording-shows rest = shown-is (termsOf (r .head)) (snapshotOf r) snapshot-fits (words-on r w e) rest
+
+  -- They show the recorded total.
+  pub recording-total : (rest : List ℕ)
+      → totalIn (countOf (r .head)) (length (itemWords (countOf (r .head)) (snapshotOf r))) (recordingBytes (termsOf (r .head)) (snapshotOf r) ++ rest)
+      ≡ recordedTotal r
+  recording-total rest = total-is (termsOf (r .head)) (snapshotOf r) snapshot-fits (words-on r w e) rest
 
   -- Their header shows the run's edition.
   pub recording-edition : (rest : List ℕ) → editionIn (wordAt (recordingBytes (termsOf (r .head)) (snapshotOf r) ++ rest) 0) ≡ editionOf (r .head)

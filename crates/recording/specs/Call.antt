@@ -6,6 +6,7 @@ use lib.Dec.{leb}
 use lib.ListN.{length, take}
 use Rattle.rules.specs.Cut.{Snapshot, snapshot}
 use Rattle.rules.specs.Limits.{mostZones}
+use Rattle.rules.specs.Park.{total}
 use Rattle.rules.specs.Questions.{question, ask}
 use Rattle.rules.specs.Site.{Call, waits}
 use Rattle.channel.specs.Channels.{itemsOn, isChannel}
@@ -17,6 +18,7 @@ use Rattle.run.specs.declared.Run.{Run}
 use Rattle.journal.specs.Format as format
 use Rattle.journal.specs.Writing.{isReplayed, Output, refusedOutput, writtenOutput}
 use Rattle.recording.specs.Layout.{recordingBytes}
+use Rattle.recording.specs.declared.Recorded.{Recorded}
 use Rattle.run.specs.Opening.{openingOf}
 use Rattle.journal.specs.Format.{openedWith, recordWords}
 
@@ -32,7 +34,26 @@ snapshotOf r = snapshot (openingOf (openedWith r)) (ruleCallsIn (recordWords r))
 unfoldable pub noRequests : ℕ → Channels → Bool
 noRequests count l = allBelow (mostZones * mostZones) (λ k. not (isChannel count k) || not (waits (itemsOn l k)))
 
-unfoldable pub recordCall : Run → List ℕ → Output
+-- "The recording call also answers the recorded total": the recorded stocks plus the recorded cars on lines. It "may exceed 65,535".
+abbrev pub recordedTotal : Run → ℕ
+recordedTotal r = total (countOf (r .head)) (snapshotOf r .park)
+
+-- What the recording call answers, and the lent bytes after it: what a writer does, with a total.
+pub record RecordOutput : Type 0 where
+  pub answer : Recorded
+  pub bytes : List ℕ
+
+abbrev pub withTotal : ℕ → Output → RecordOutput
+withTotal n o = record {
+  answer = record { refusal = o .answer .refusal; written = o .answer .written; total = n };
+  bytes = o .bytes;
+}
+
+-- A refused recording answers the total 0.
+abbrev pub notRecorded : List ℕ → ℕ → RecordOutput
+notRecorded lent n = withTotal 0 (refusedOutput lent n)
+
+unfoldable pub recordCall : Run → List ℕ → RecordOutput
 recordCall r lent =
     ask (
     question 1 (isReplayed r)
@@ -41,5 +62,5 @@ recordCall r lent =
     ∷ question 14 (leb (length (recordingBytes (termsOf (r .head)) (snapshotOf r))) (length lent))
     ∷ []
     )
-    (refusedOutput lent)
-    (writtenOutput lent (recordingBytes (termsOf (r .head)) (snapshotOf r)))
+    (notRecorded lent)
+    (withTotal (recordedTotal r) (writtenOutput lent (recordingBytes (termsOf (r .head)) (snapshotOf r))))

@@ -1,5 +1,6 @@
 // The recording of a run, written as bytes (docs/RULES.md, sections 5 and 8).
 ghost use Rattle.recording.specs.declared.Recorded.{Recorded};
+ghost use Rattle.recording.specs.declared.JournalRecorded.{JournalRecorded};
 use rules::RECORDS;
 use rules::ZONES;
 
@@ -10,10 +11,18 @@ pub const PERMANENT_WEIGHT: u16 = 32768;
 // without its record.
 pub const RECORDING_BYTES: usize = 2 + 4 * ZONES + 2 * RECORDS;
 
-// What the recording of a journal answers: the refusal's number or 0, the position of the record that was refused with 18 or 19, and the
-// number of bytes written.
+// What the recording of a run answers: the refusal's number or 0, the number of bytes written, and the recorded total: the recorded stocks
+// and the recorded cars on channels.
 pub struct Recorded {
+    pub refusal: u8,
+    pub written: usize,
+    pub total: u32,
+}
+
+// What the recording of a journal answers: the same, and the position of the record that was refused with 18 or 19.
+pub struct JournalRecorded {
     pub refusal: u8,
     pub position: usize,
     pub written: usize,
+    pub total: u32,
 }

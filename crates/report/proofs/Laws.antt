@@ -16,11 +16,11 @@ use Rattle.journal.specs.Writing.{isReplayed, refusedOutput, writtenOutput}
 use Rattle.recording.specs.Call.{noRequests, snapshotOf, recordCall}
 use Rattle.recording.specs.Journal.{outputOf, unreadOutput, recordJournal}
 use Rattle.recording.specs.Layout.{recordingBytes}
-use Rattle.recording.specs.declared.Recorded.{Recorded}
+use Rattle.recording.specs.declared.JournalRecorded.{JournalRecorded}
 use Rattle.text.specs.Text.{bytesText, refusedText, Prints}
 use Rattle.report.specs.Report.{reportText}
 
-module _ (journal lent after : List ℕ) (r : ℕ) (done : Recorded) (answers : done ≡ recordJournal journal (replicate 2034 0) .answer) where
+module _ (journal lent after : List ℕ) (r : ℕ) (done : JournalRecorded) (answers : done ≡ recordJournal journal (replicate 2034 0) .answer) where
   -- The journal or its recording is refused.
   pub refused-printed : done .refusal ≢ 0 → Prints (refusedText (done .refusal)) lent after r → Prints (reportText journal) lent after r
   unfolding reportText

@@ -26,7 +26,7 @@ use Rattle.site_c.specs.declared.PlainWritten.{PlainWritten}
 use Rattle.run.specs.Calls.{answer}
 use Rattle.run.specs.Opening.{openCall, termsAs, openingAs}
 use Rattle.run.specs.declared.SiteCall.{SiteCall}
-use Rattle.recording.specs.declared.Recorded.{Recorded}
+use Rattle.recording.specs.declared.JournalRecorded.{JournalRecorded}
 use Rattle.run.specs.declared.Head.{Head}
 
 abbrev pub localOf : PlainLocal → Local
@@ -138,5 +138,5 @@ readPlain bytes =
     record { refusal = t .refusal; position = t .position; run = plainRun (t .run) }
 
 -- A journal's recording.
-abbrev pub recordedPlain : Recorded → PlainWritten
+abbrev pub recordedPlain : JournalRecorded → PlainWritten
 recordedPlain w = record { refusal = w .refusal; position = w .position; written = w .written }

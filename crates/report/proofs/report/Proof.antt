@@ -4,7 +4,7 @@ use Prim.Native.Nat.{ℕ, _-_}
 use native.Mathlib.Numerals.{unary-clauses}
 use native.Mathlib.Omega.{arith}
 use lib.ListN.{replicate, length-replicate}
-use Rattle.recording.specs.declared.Recorded.{Recorded}
+use Rattle.recording.specs.declared.JournalRecorded.{JournalRecorded}
 use Rattle.report.proofs.Laws.{refused-printed, recording-shown, written-fits}
 use borrow.Author.Needs.{needs}
 use Rattle.report.proofs.report.Statement.{statement}
@@ -43,7 +43,7 @@ part-shown-end c =
     let d = done (c .before) in
     omega (
       arith,
-      ap (λ (x : Recorded). x .written) (d .record-journal .ensures .0),
+      ap (λ (x : JournalRecorded). x .written) (d .record-journal .ensures .0),
       written-fits (d .before .before .before .before .args .journal .now) (replicate 2034 0),
       length-replicate {A = ℕ} 2034 0,
     )
