@@ -16,7 +16,9 @@ use Rattle.run.specs.declared.Run.{Run}
 use Rattle.run.proofs.BelowLaws.{list-at}
 use Rattle.words.specs.Bytes.{wordsBytes}
 use Rattle.journal.specs.Format.{headerOf}
-use Rattle.journal.specs.declared.Written.{Written}
+use Rattle.recording.specs.declared.Recorded.{Recorded}
+use Rattle.recording.specs.InnerTotal.{totalIn}
+use Rattle.recording.proofs.Shows.{recording-total}
 use Rattle.journal.specs.declared.Reading.{Reading}
 use Rattle.journal.specs.Reading.{openingIn, recordsIn, recordsOf}
 use Rattle.journal.proofs.Accepted.{read-tells, read-replayed}
@@ -25,12 +27,12 @@ use Rattle.recording.specs.Journal.{recordJournal}
 use Rattle.words.proofs.ByteLaws.{words-length}
 use Rattle.journal.specs.InnerOrdinals.{ordinalsOf}
 use Rattle.journal.specs.Writing.{isReplayed}
-use Rattle.recording.specs.Call.{snapshotOf, noRequests, recordCall}
+use Rattle.recording.specs.Call.{snapshotOf, recordedTotal, noRequests, recordCall}
 use Rattle.recording.specs.Layout.{joinBelow, zoneWords, itemWords, recordingBytes}
 use Rattle.recording.proofs.Bounds.{run-sound, items-few, events-few}
 use Rattle.recording.proofs.Zones.{wordsAt, firstRun, events-are, zone-words-are, item-words-are}
 use Rattle.items.specs.InnerItems.{allWords, wordsAt as itemsAtIndex}
-use Rattle.recorder.specs.InnerWords.{zonesWords, shownEvents, itemsWords, recordedBytes, Fitting, sizedOutput, Replayed}
+use Rattle.recorder.specs.InnerWords.{zonesWords, shownEvents, itemsWords, recordedBytes, Fitting, sizedOutput, writtenTotal, Replayed}
 use Rattle.rules.proofs.AskLaws.{numbers}
 use Rattle.run.specs.Calls.{answer}
 use Rattle.journal.specs.Reading.{readCall, openingIn}
@@ -87,12 +89,18 @@ module _ (r : Run) (w : WholeRun r) (e : isReplayed r ≡ true) where
   pub ordinals-front : (rest : List ℕ) → take (r .head .records) (ordinalsAt ++ rest) ≡ ordinalsAt
   ordinals-front rest = take-at ordinalsAt rest (r .head .records) ordinals-records
 
+  -- The total that they show is the recorded one.
+  total-is : (lent : List ℕ) → writtenTotal (r .head) (wordsAt r) ordinalsAt lent ≡ recordedTotal r
+  total-is lent =
+      ap₂ (λ (n : ℕ) (bytes : List ℕ). totalIn (countOf (r .head)) n (bytes ++ drop (length bytes) lent)) (ap length (sym items-are)) bytes-are
+      ∙ recording-total r w e _
+
   -- After questions 1, 12 and 13 what is left is question 14 and these bytes.
   pub sized-is : (lent ws ns : List ℕ) → ws ≡ wordsAt r → ns ≡ ordinalsAt → hasStarted (r .head) ≡ true
       → noRequests (countOf (r .head)) (r .channels) ≡ true
-      → sizedOutput lent (recordedBytes (r .head) ws ns) ≡ recordCall r lent
+      → sizedOutput lent (writtenTotal (r .head) ws ns lent) (recordedBytes (r .head) ws ns) ≡ recordCall r lent
   unfolding recordCall sizedOutput
-  sized-is lent ws ns p q started free = rw (p, q, bytes-are, e, started, free)
+  sized-is lent ws ns p q started free = rw (p, q, total-is lent, bytes-are, e, started, free)
 
   -- What was lent for the ordinals has them at its front, and its length.
   pub replayed-from : (ordinals after : List ℕ) → length ordinals ≡ 1000 → after ≡ ordinalsAt ++ drop (r .head .records) ordinals
@@ -109,18 +117,18 @@ module _ (r : Run) (w : WholeRun r) (e : isReplayed r ≡ true) where
   )
 
 -- The refusals behind question 1.
-module _ (r : Run) (e : isReplayed r ≡ true) (lent : List ℕ) (w : Written) where
-  pub refused-12 : hasStarted (r .head) ≡ false → w ≡ record { refusal = 12; written = 0 }
+module _ (r : Run) (e : isReplayed r ≡ true) (lent : List ℕ) (w : Recorded) where
+  pub refused-12 : hasStarted (r .head) ≡ false → w ≡ record { refusal = 12; written = 0; total = 0 }
       → (w ≡ recordCall r lent .answer) × (lent ≡ recordCall r lent .bytes)
   unfolding recordCall
   refused-12 s q = rw (e, s) (q, refl)
 
-  pub refused-13 : hasStarted (r .head) ≡ true → noRequests (countOf (r .head)) (r .channels) ≡ false → w ≡ record { refusal = 13; written = 0 }
+  pub refused-13 : hasStarted (r .head) ≡ true → noRequests (countOf (r .head)) (r .channels) ≡ false → w ≡ record { refusal = 13; written = 0; total = 0 }
       → (w ≡ recordCall r lent .answer) × (lent ≡ recordCall r lent .bytes)
   unfolding recordCall
   refused-13 s f q = rw (e, s, f) (q, refl)
 
-pub refused-1 : (r : Run) (lent : List ℕ) (w : Written) → isReplayed r ≡ false → w ≡ record { refusal = 1; written = 0 }
+pub refused-1 : (r : Run) (lent : List ℕ) (w : Recorded) → isReplayed r ≡ false → w ≡ record { refusal = 1; written = 0; total = 0 }
     → (w ≡ recordCall r lent .answer) × (lent ≡ recordCall r lent .bytes)
 unfolding recordCall
 refused-1 r lent w e q = rw e (q, refl)
@@ -148,7 +156,8 @@ module _ (r : Run) (ordinals : List ℕ) (p : Replayed r ordinals) where
       (subst (Fitting (r .head) (wordsAt r)) (sym ordinals-are) (fitting r (p .whole) (p .asked)))
 
   pub parts-written : (lent : List ℕ) → hasStarted (r .head) ≡ true → noRequests (countOf (r .head)) (r .channels) ≡ true
-      → sizedOutput lent (recordedBytes (r .head) (take (r .head .records - 0) (r .journal)) (take (r .head .records - 0) ordinals)) ≡ recordCall r lent
+      → sizedOutput lent (writtenTotal (r .head) (take (r .head .records - 0) (r .journal)) (take (r .head .records - 0) ordinals) lent)
+      (recordedBytes (r .head) (take (r .head .records - 0) (r .journal)) (take (r .head .records - 0) ordinals)) ≡ recordCall r lent
   parts-written lent s f = sized-is r (p .whole) (p .asked) lent _ _ words-are ordinals-are s f
 
 -- The same of a run that was just read.
@@ -170,14 +179,14 @@ module _ (bytes : List ℕ) (t : Reading) (q : t ≡ readCall bytes) (z : t .ref
       ∙ ap (λ (n : ℕ). ordinalsAt r w k ++ drop n ordinals) n in
       subst (λ (x : Reading). Replayed (x .run) after × (length after ≡ 1000)) (sym q) (replayed-from r w k ordinals after l f)
 
-  pub journal-recorded : (lent : List ℕ) (w : Written) (out : List ℕ) → w ≡ recordCall (t .run) lent .answer → out ≡ recordCall (t .run) lent .bytes
-      → (record { refusal = w .refusal; position = 0; written = w .written } ≡ recordJournal bytes lent .answer)
+  pub journal-recorded : (lent : List ℕ) (w : Recorded) (out : List ℕ) → w ≡ recordCall (t .run) lent .answer → out ≡ recordCall (t .run) lent .bytes
+      → (record { refusal = w .refusal; position = 0; written = w .written; total = w .total } ≡ recordJournal bytes lent .answer)
       × (out ≡ recordJournal bytes lent .bytes)
   unfolding recordJournal
   journal-recorded lent w out f g = rw (f, g, q, eq-eqb _ _ accepted) (refl, refl)
 
 pub journal-refused : (bytes lent : List ℕ) (t : Reading) → t ≡ readCall bytes → t .refusal ≢ 0
-    → (record { refusal = t .refusal; position = t .position; written = 0 } ≡ recordJournal bytes lent .answer)
+    → (record { refusal = t .refusal; position = t .position; written = 0; total = 0 } ≡ recordJournal bytes lent .answer)
     × (lent ≡ recordJournal bytes lent .bytes)
 unfolding recordJournal
 journal-refused bytes lent t q z = rw (q, ne-eqb _ _ (subst (λ (x : Reading). x .refusal ≢ 0) q z)) (refl, refl)

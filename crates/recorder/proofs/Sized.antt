@@ -1,17 +1,18 @@
 -- Question 14 by the number of items, and what is answered on either side of it.
-use mathlib.Core.Path.{_≡_, sym, _∙_, ap}
+use mathlib.Core.Path.{_≡_, sym, _∙_, ap, ap₂}
 use mathlib.Core.List.{List, _∷_, _++_}
 use Prim.Native.Nat.{ℕ, _+_, _*_, _<_, _≤_}
 use native.Mathlib.Omega.{arith}
-use lib.ListN.{length, length-append}
+use lib.ListN.{length, drop, length-append}
 use borrow.Author.Tests.{le-leb, lt-leb}
 use Rattle.words.specs.Bytes.{wordsBytes}
 use Rattle.journal.specs.Format.{headerOf}
-use Rattle.journal.specs.Writing.{refusedOutput}
+use Rattle.recording.specs.Call.{notRecorded}
+use Rattle.recording.specs.InnerTotal.{totalIn}
 use Rattle.words.proofs.ByteLaws.{bytes-length}
 use Rattle.items.specs.InnerItems.{allWords}
 use Rattle.words.specs.InnerWrote.{Wrote}
-use Rattle.recorder.specs.InnerWords.{zonesWords, shownEvents, recordedBytes, sizedOutput}
+use Rattle.recorder.specs.InnerWords.{zonesWords, shownEvents, recordedBytes, sizedOutput, writtenTotal}
 use Rattle.recorder.proofs.Shown.{zones-length}
 use Rattle.run.specs.State.{termsOf, countOf}
 use Rattle.run.specs.declared.Head.{Head}
@@ -31,13 +32,23 @@ module _ (h : Head) (ws ns shown : List ℕ) (number : ℕ) (lent : List ℕ)
       ap length bytes-are ∙ bytes-length words
       ∙ omega (arith, length-append (zonesWords h) (allWords (countOf h) shown ws ns), zones-length h)
 
-  pub too-few : length lent < 2 + 4 * countOf h + 2 * number → sizedOutput lent (recordedBytes h ws ns) ≡ refusedOutput lent 14
+  pub too-few : (total : ℕ) → length lent < 2 + 4 * countOf h + 2 * number → sizedOutput lent total (recordedBytes h ws ns) ≡ notRecorded lent 14
   unfolding sizedOutput
-  too-few b = rw (lt-leb (length (recordedBytes h ws ns)) (length lent) (omega (arith, size)))
+  too-few total b = rw (lt-leb (length (recordedBytes h ws ns)) (length lent) (omega (arith, size)))
 
-  pub enough : (out : List ℕ) (n : ℕ) → 2 + 4 * countOf h + 2 * number ≤ length lent → Wrote words lent out n
-      → sizedOutput lent (recordedBytes h ws ns) ≡ record { answer = record { refusal = 0; written = n }; bytes = out }
-  unfolding sizedOutput
-  enough out n b w =
-      let e : length (recordedBytes h ws ns) ≡ n = ap length bytes-are ∙ bytes-length words ∙ sym (w .number) in
-      rw (le-leb (length (recordedBytes h ws ns)) (length lent) (omega (arith, size)), e, bytes-are, w .bytes)
+  -- What is written, and the total that it shows.
+  module _ (out : List ℕ) (n total : ℕ) (w : Wrote words lent out n) where
+    length-is : length (recordedBytes h ws ns) ≡ n
+    length-is = ap length bytes-are ∙ bytes-length words ∙ sym (w .number)
+
+    out-is : out ≡ recordedBytes h ws ns ++ drop (length (recordedBytes h ws ns)) lent
+    out-is = w .bytes ∙ ap₂ (λ (xs : List ℕ) (k : ℕ). xs ++ drop k lent) (sym bytes-are) (sym length-is)
+
+    shows : total ≡ totalIn (countOf h) number out → total ≡ writtenTotal h ws ns lent
+    shows e = e ∙ ap₂ (totalIn (countOf h)) (en ∙ ap (λ (xs : List ℕ). length (allWords (countOf h) xs ws ns)) es) out-is
+
+    pub enough : 2 + 4 * countOf h + 2 * number ≤ length lent → total ≡ totalIn (countOf h) number out
+        → sizedOutput lent (writtenTotal h ws ns lent) (recordedBytes h ws ns)
+        ≡ record { answer = record { refusal = 0; written = n; total = total }; bytes = out }
+    unfolding sizedOutput
+    enough b e = rw (le-leb (length (recordedBytes h ws ns)) (length lent) (omega (arith, size)), shows e, out-is, length-is)

@@ -4,7 +4,7 @@ use mathlib.Core.Bool.{cond, true, Bool, not, _||_}
 use mathlib.Core.List.{List, [], _∷_, _++_}
 use Prim.Native.Nat.{ℕ, _+_, _<_, _≤_}
 use lib.Dec.{ltb, leb}
-use lib.ListN.{length, take}
+use lib.ListN.{length, take, drop}
 use Rattle.rules.specs.Below.{listBelow}
 use Rattle.rules.specs.Cut.{eventsOf, stockOf}
 use Rattle.rules.specs.Edition.{isEdition}
@@ -14,7 +14,9 @@ use Rattle.rules.specs.Zone.{isPermanent}
 use Rattle.rules.specs.declared.Checkpoint.{Checkpoint}
 use Rattle.run.specs.State.{zoneAt, termsOf, editionOf, countOf}
 use Rattle.journal.specs.Format.{headerOf, openedWith, recordWords}
-use Rattle.journal.specs.Writing.{Output, refusedOutput, writtenOutput, isReplayed}
+use Rattle.journal.specs.Writing.{writtenOutput, isReplayed}
+use Rattle.recording.specs.Call.{RecordOutput, withTotal, notRecorded}
+use Rattle.recording.specs.InnerTotal.{totalIn}
 use Rattle.recording.specs.Layout.{permanentWeight, joinBelow}
 use Rattle.items.specs.InnerItems.{allWords}
 use Rattle.words.specs.Bytes.{wordsBytes}
@@ -68,7 +70,12 @@ pub record Replayed (r : Run) (ordinals : List ℕ) : Type 0 where
 abbrev pub quietAt : ℕ → Channels → ℕ → Bool
 quietAt count l k = not (isChannel count k) || not (waits (itemsOn l k))
 
--- Question 14, and what a writer of these bytes answers.
-unfoldable pub sizedOutput : List ℕ → List ℕ → Output
-sizedOutput lent bytes =
-    ask (question 14 (leb (length bytes) (length lent)) ∷ []) (refusedOutput lent) (writtenOutput lent bytes)
+-- Question 14, and what a writer of these bytes with this total answers.
+unfoldable pub sizedOutput : List ℕ → ℕ → List ℕ → RecordOutput
+sizedOutput lent total bytes =
+    ask (question 14 (leb (length bytes) (length lent)) ∷ []) (notRecorded lent) (withTotal total (writtenOutput lent bytes))
+
+-- The total that the recording shows, whatever stands behind it in the lent bytes.
+abbrev pub writtenTotal : Head → List ℕ → List ℕ → List ℕ → ℕ
+writtenTotal h ws ns lent =
+    totalIn (countOf h) (length (itemsWords h ws ns)) (recordedBytes h ws ns ++ drop (length (recordedBytes h ws ns)) lent)

@@ -5,9 +5,8 @@ use Prim.Native.Nat.{_-_}
 use lib.ListN.{length}
 use borrow.Author.Tests.{not-true, not-false}
 use Rattle.run.specs.State.{countOf, hasStarted}
-use Rattle.recording.specs.Call.{noRequests}
+use Rattle.recording.specs.Call.{RecordOutput, noRequests}
 use Rattle.recording.proofs.Bounds.{run-sound}
-use Rattle.journal.specs.Writing.{Output}
 use Rattle.recorder.proofs.Recorded.{enough-words, enough-ordinals, parts-fit, parts-written, refused-12, refused-13}
 use borrow.Author.Needs.{needs}
 use Rattle.recorder.proofs.record_replayed.Statement.{statement}
@@ -101,7 +100,7 @@ returns-3 c =
     let a = searched (f .before) in
     let s = start (asked a) in
     let e = parts-written _ _ (s .pre) (s .args .out .now) (begun a) (free f) in
-    (w .write-sized .ensures .0 ∙ ap (λ (o : Output). o .answer) e, w .write-sized .ensures .1 ∙ ap (λ (o : Output). o .bytes) e)
+    (w .write-sized .ensures .0 ∙ ap (λ (o : RecordOutput). o .answer) e, w .write-sized .ensures .1 ∙ ap (λ (o : RecordOutput). o .bytes) e)
 
 pub record-replayed-spec : {M : Type 1} → statement M
 record-replayed-spec =

@@ -9,13 +9,14 @@ use Rattle.items.specs.InnerItems.{allWords}
 use Rattle.items.proofs.Counting.{counted-of}
 use Rattle.items.proofs.Writing.{all-number}
 use Rattle.recorder.proofs.Sized.{too-few, enough}
+use Rattle.recorder.specs.InnerWords.{writtenTotal}
 use borrow.Author.Needs.{needs}
 use Rattle.recorder.proofs.write_sized.Statement.{statement}
 use Rattle.run.specs.declared.SiteCall.the-variants.{Start}
 use Rattle.rules.proofs.AskLaws.{numbers}
 use Rattle.recorder.proofs.write_sized.Tie as tie
 
--- Landmarks: the opening is read; the events shown are found; the records are counted; the items are numbered.
+-- Landmarks: the opening is read; the events shown are found; the records are counted; the items are numbered; 14 answered yes.
 abbrev named : tie.After-opening → tie.Start
 named c = c .before .before .before .before
 
@@ -27,6 +28,9 @@ events c = c .before .before .before
 
 abbrev count : tie.After-number → tie.After-counted
 count c = c .before .before
+
+abbrev roomy : tie.After-write-all → tie.Else1
+roomy c = c .before .before .before
 
 -- The number of items, and its bound.
 module _ (c : tie.After-number) where
@@ -71,7 +75,8 @@ returns : tie.Need-returns
 returns c =
     let b = c .before .before in
     let a = start (events b) .args in
-    let e = too-few (a .head) (a .words .now) (a .ordinals .now) _ _ (a .out .now) (events b .shown-events .ensures) (number-is b) (c .before .if1 .taken) in
+    let e = too-few (a .head) (a .words .now) (a .ordinals .now) _ _ (a .out .now) (events b .shown-events .ensures) (number-is b)
+    (writtenTotal (a .head) (a .words .now) (a .ordinals .now) (a .out .now)) (c .before .if1 .taken) in
     rw e (c .refused .ensures, refl)
 
 cast-write-all : tie.Need-cast-write-all
@@ -83,18 +88,26 @@ write-all-requires c κs =
     let p = start (events b) .pre in
     (p .fewest, p .most, p .events, p .numbers, counted-of (count b .counted .ensures), few b, number-is b, c .before .before .if1 .left, p .edition)
 
+cast-total-in : tie.Need-cast-total-in
+cast-total-in c = search needs
+
+total-in-requires : tie.Need-total-in-requires
+total-in-requires c κs =
+    let b = roomy (c .before .before .before) .before in
+    (start (events b) .pre .most, few b)
+
 same-length : tie.Need-same-length
 same-length c = search needs
 
 returns-2 : tie.Need-returns-2
 returns-2 c =
-    let d = c .before .before in
+    let d = c .before .before .before .before in
     let w = d .write-all in
-    let t = d .before .before .before in
+    let t = roomy d in
     let b = t .before in
     let a = start (events b) .args in
     let e = enough (a .head) (a .words .now) (a .ordinals .now) _ _ (a .out .now) (events b .shown-events .ensures) (number-is b)
-    (w .last .0) (w .result) (t .if1 .left) (w .ensures) in
+    (w .last .0) (w .result) (c .total-in .result) (w .ensures) (t .if1 .left) (c .total-in .ensures) in
     rw e (refl, refl)
 
 pub write-sized-spec : {M : Type 1} → statement M
@@ -113,5 +126,7 @@ write-sized-spec =
     returns
     cast-write-all
     write-all-requires
+    cast-total-in
+    total-in-requires
     same-length
     returns-2)
