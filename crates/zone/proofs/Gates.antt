@@ -1,14 +1,14 @@
 -- Gate steps of the zone part, of every zone: below edition 3 there are none, an accepted one is one own event and changes the stock, with 0
 -- cars too, and none changes what is heard or marked.
-use mathlib.Core.Path.{_≡_, refl, _∙_, ap}
+use mathlib.Core.Path.{_≡_, refl, ap}
 use mathlib.Core.Bool.{true, false}
 use mathlib.Core.List.{[], _∷_}
 use Prim.Native.Nat.{ℕ, _+_, _≤_, _<_}
 use native.Mathlib.Omega.{arith}
 use borrow.Author.Tests.{leb-true, eq-eqb}
+use Rattle.rules.specs.Edition.{hasGates}
 use Rattle.rules.specs.Sets.{nobody}
 use Rattle.rules.specs.Zone.{needed, through, gated}
-use Rattle.rules.specs.declared.Checkpoint.{Checkpoint}
 use Rattle.rules.specs.declared.Direction.{Direction}
 use Rattle.rules.specs.declared.Direction.the-variants.{In, Out}
 use Rattle.rules.proofs.AskLaws.{AllYes, numbers, lacks}
@@ -60,6 +60,11 @@ module _ (z : Zone) (d : Direction) (cars : ℕ) where
     -- The whole answer to an accepted one.
     pub gate-answer : x ≡ accepted (withLocal z (gated d cars (localOf z))) false nobody nobody
     gate-answer = asked .1
+
+    -- The edition has gates.
+    pub gate-from-three : 3 ≤ z .edition
+    unfolding hasGates
+    gate-from-three = leb-true 3 (z .edition) (asked .0 .1 .0)
 
     -- An exit took no more than the stock.
     pub gate-covered : needed d cars ≤ z .stock
