@@ -1,7 +1,7 @@
 -- The cars of a network. Every accepted call is at zones of the site, so that cars come and go by gates alone: the network has as many as
 -- were opened, with the entries and without the exits; a complete recording shows as many, by the entries and exits inside it; and a zone
--- refuses no message and no entry with 20 where no more would be there than a zone may have. Below edition 3 there are no entries and
--- exits, whatever the calls.
+-- refuses no message and no entry with 20 where no more would be there than a zone may have. Where no gate call is accepted, as below
+-- edition 3, no car is made or lost.
 use mathlib.Core.Path.{_≡_, refl, sym, _∙_, ap, subst}
 use mathlib.Core.Bool.{Bool, true, false, _&&_, not, false≢true, true≢false}
 use mathlib.Core.Logic.{_≢_, _⊎_, inl, inr}
@@ -173,18 +173,16 @@ module _ (n : ℕ) (o : Opening) (cs : List Call) (one : startsIn (acceptedCalls
   abbrev ones : List Call
   ones = acceptedCalls cs (openNetwork n o)
 
-  -- What the park is fed of them, and what of it is inside the recording.
+  -- What the park is fed of them.
   abbrev fed : List Move
   fed = moves ones (openS o)
-
-  abbrev shown : List Move
-  shown = inside (snapshot o ones .events) fed
 
   site : OnSite n net
   site = site-after n cs (openNetwork n o) (site-open n o)
 
   -- The stocks and the cars on channels, with those that drove out, are as many cars as were opened and drove in.
-  pub network-total : total n (present (networkSite (o .edition) net)) + exits (moves ones (openS o)) ≡ sumBelow n (o .stocks) + entries (moves ones (openS o))
+  pub network-total : total n (present (networkSite (o .edition) net)) + exits (moves ones (openS o))
+      ≡ sumBelow n (o .stocks) + entries (moves ones (openS o))
   network-total =
       let r = network-follows n o cs one in
       ap (λ (s : Site). total n (present s) + exits fed) (r .1)
@@ -236,18 +234,18 @@ module _ (n : ℕ) (o : Opening) (cs : List Call) (one : startsIn (acceptedCalls
           enough : isZoneSound (net .zone b) ≡ true → isOther (net .zone b) (a + 1) ≡ true → net .zone b .stock + cars ≤ mostCars
           enough p q = omega (arith, few, room a b cars flag l (named-on n net site b a q) (on-site b p) at)
 
--- ---- below edition 3: no car drives in or out
+-- ---- where no gate call is accepted
 
-abbrev isGate : Call → Bool
+abbrev pub isGate : Call → Bool
 isGate (send a b cars) = false
 isGate (receive a b) = false
 isGate (start a) = false
 isGate (gate d a cars) = true
 
-abbrev Ungated : Call → Type 0
+abbrev pub Ungated : Call → Type 0
 Ungated c = isGate c ≡ false
 
--- Moves by which none does, so that none does by those of them that are inside a recording.
+-- No car drives in or out by these moves, nor then by those of them that are inside a recording.
 abbrev NoneThrough : List Move → Type 0
 NoneThrough ms = (entries ms ≡ 0) × (exits ms ≡ 0)
 
@@ -295,6 +293,7 @@ none-inside shown n (m ∷ ms) h =
     go true i = (omega (arith, first .0, i .0, entries-append (m ∷ []) rest), omega (arith, first .1, i .1, exits-append (m ∷ []) rest))
     go false i = i
 
+-- Below edition 3 none is accepted.
 module _ {edition : ℕ} (low : edition < 3) where
   all-ungated : (cs : List Call) (net : Network) → InEdition edition net → All Ungated (acceptedCalls cs net)
   all-ungated [] net same = tt
@@ -315,26 +314,44 @@ in-edition : (edition : ℕ) (cs : List Call) (net : Network) → InEdition edit
 in-edition edition [] net same = same
 in-edition edition (c ∷ cs) net same = in-edition edition cs (made c net) (edition-kept net same c)
 
-module _ (n : ℕ) (o : Opening) (cs : List Call) (one : startsIn (acceptedCalls cs (openNetwork n o)) ≤ 1) (low : o .edition < 3) where
+-- No accepted call is a gate call: no car is made or lost.
+module _ (n : ℕ) (o : Opening) (cs : List Call) (one : startsIn (acceptedCalls cs (openNetwork n o)) ≤ 1)
+    (ungated : All Ungated (acceptedCalls cs (openNetwork n o))) where
   none-fed : NoneThrough (fed n o cs one)
-  none-fed = none-through (ones n o cs one) (openS o) (all-ungated low cs (openNetwork n o) (λ k. refl))
+  none-fed = none-through (ones n o cs one) (openS o) ungated
 
-  -- So no car is made or lost.
+  -- The stocks and the cars on channels are as many cars as were opened.
   pub ungated-total : total n (present (networkSite (o .edition) (after cs (openNetwork n o)))) ≡ sumBelow n (o .stocks)
   ungated-total = omega (arith, network-total n o cs one, none-fed .0, none-fed .1)
 
+  -- And so many are shown, once the recording is complete.
   pub ungated-shows-total : Complete (networkSite (o .edition) (after cs (openNetwork n o)))
       → total n (snapshot o (acceptedCalls cs (openNetwork n o)) .park) ≡ sumBelow n (o .stocks)
   ungated-shows-total done =
       let i = none-inside (snapshot o (ones n o cs one) .events) (λ k. 0) (fed n o cs one) none-fed in
       omega (arith, network-shows-total n o cs one done, i .0, i .1)
 
-  -- Where no more cars were opened than a zone may have, no call is refused with 20.
-  pub ungated-never-20 : sumBelow n (o .stocks) ≤ mostCars → (c : Call) → RefusedWith 20 (answer c (after cs (openNetwork n o))) → ⊥
-  ungated-never-20 few (send a b cars) = never-20 n o cs one (send a b cars) (omega (arith, few, none-fed .0))
-  ungated-never-20 few (receive a b) = never-20 n o cs one (receive a b) (omega (arith, few, none-fed .0))
-  ungated-never-20 few (start a) = never-20 n o cs one (start a) (omega (arith, few, none-fed .0))
-  ungated-never-20 few (gate Out a cars) = never-20 n o cs one (gate Out a cars) (omega (arith, few, none-fed .0))
-  ungated-never-20 few (gate In a cars) = entered-not-20 (net n o cs one .zone a) cars
+  -- Where no more were opened than a zone may have, no call but an entry is refused with 20.
+  pub ungated-never-20 : sumBelow n (o .stocks) ≤ mostCars → (c : Call) → Ungated c → RefusedWith 20 (answer c (after cs (openNetwork n o))) → ⊥
+  ungated-never-20 few c u = never-20 n o cs one c (omega (arith, few, none-fed .0, none-in c u))
+    where
+      none-in : (c : Call) → Ungated c → entering c ≡ 0
+      none-in (send a b cars) u = refl
+      none-in (receive a b) u = refl
+      none-in (start a) u = refl
+      none-in (gate d a cars) u = absurd (true≢false u)
+
+-- So it is below edition 3, whatever the calls; there no call at all is refused with 20.
+module _ (n : ℕ) (o : Opening) (cs : List Call) (low : o .edition < 3) where
+  pub below-three-ungated : All Ungated (acceptedCalls cs (openNetwork n o))
+  below-three-ungated = all-ungated low cs (openNetwork n o) (λ k. refl)
+
+  pub below-three-never-20 : startsIn (acceptedCalls cs (openNetwork n o)) ≤ 1 → sumBelow n (o .stocks) ≤ mostCars → (c : Call)
+      → RefusedWith 20 (answer c (after cs (openNetwork n o))) → ⊥
+  below-three-never-20 one few (send a b cars) = ungated-never-20 n o cs one below-three-ungated few (send a b cars) refl
+  below-three-never-20 one few (receive a b) = ungated-never-20 n o cs one below-three-ungated few (receive a b) refl
+  below-three-never-20 one few (start a) = ungated-never-20 n o cs one below-three-ungated few (start a) refl
+  below-three-never-20 one few (gate Out a cars) = left-not-20 (net n o cs one .zone a) cars
+  below-three-never-20 one few (gate In a cars) = entered-not-20 (net n o cs one .zone a) cars
       (λ p q. absurd (true≢false (sym q ∙ no-gates (net n o cs one .zone a .edition)
       (omega (arith, low, in-edition (o .edition) cs (openNetwork n o) (λ k. refl) a)))))

@@ -20,35 +20,35 @@ use Rattle.zone.proofs.Asks.{gateAsks, passed}
 use Rattle.zone.proofs.Checks.{step-keeps}
 
 module _ (z : Zone) (d : Direction) (cars : ℕ) where
-  abbrev x : Step
-  x = gateStep z d cars
+  abbrev step : Step
+  step = gateStep z d cars
 
   -- "does the run's edition have gates?" Below edition 3 the step of a sound zone is refused with 15, and hands the zone back as it was.
-  pub gate-offered : z .edition < 3 → isZoneSound z ≡ true → x ≡ refused z 15
+  pub gate-offered : z .edition < 3 → isZoneSound z ≡ true → step ≡ refused z 15
   unfolding gateStep
   gate-offered low sound = rw (sound, no-gates (z .edition) (omega arith))
 
   -- The dependency set and the checkpoint stay, whether it is accepted or refused.
-  pub gate-deps : x .zone .deps ≡ z .deps
+  pub gate-deps : step .zone .deps ≡ z .deps
   unfolding gateStep
   gate-deps = step-keeps (λ (y : Zone). y .deps) (gateAsks z d cars) z _ refl
 
-  pub gate-checkpoint : x .zone .checkpoint ≡ z .checkpoint
+  pub gate-checkpoint : step .zone .checkpoint ≡ z .checkpoint
   unfolding gateStep
   gate-checkpoint = step-keeps (λ (y : Zone). y .checkpoint) (gateAsks z d cars) z _ refl
 
   -- So do the number and the count; Checks.gate-edition has the edition.
-  pub gate-number : x .zone .number ≡ z .number
+  pub gate-number : step .zone .number ≡ z .number
   unfolding gateStep
   gate-number = step-keeps (λ (y : Zone). y .number) (gateAsks z d cars) z _ refl
 
-  pub gate-count : x .zone .count ≡ z .count
+  pub gate-count : step .zone .count ≡ z .count
   unfolding gateStep
   gate-count = step-keeps (λ (y : Zone). y .count) (gateAsks z d cars) z _ refl
 
-  module _ (is-accepted : x .refusal ≡ 0) where
+  module _ (is-accepted : step .refusal ≡ 0) where
     -- All its questions were answered yes.
-    asked : AllYes (gateAsks z d cars) × (x ≡ accepted (withLocal z (gated d cars (localOf z))) false nobody nobody)
+    asked : AllYes (gateAsks z d cars) × (step ≡ accepted (withLocal z (gated d cars (localOf z))) false nobody nobody)
     unfolding gateStep
     asked = passed (gateAsks z d cars) z (accepted (withLocal z (gated d cars (localOf z))) false nobody nobody) (nonzero d)
         (eq-eqb _ 0 is-accepted)
@@ -58,7 +58,7 @@ module _ (z : Zone) (d : Direction) (cars : ℕ) where
         nonzero Out = refl
 
     -- The whole answer to an accepted one.
-    pub gate-answer : x ≡ accepted (withLocal z (gated d cars (localOf z))) false nobody nobody
+    pub gate-answer : step ≡ accepted (withLocal z (gated d cars (localOf z))) false nobody nobody
     gate-answer = asked .1
 
     -- The edition has gates.
@@ -75,18 +75,18 @@ module _ (z : Zone) (d : Direction) (cars : ℕ) where
         go Out y = leb-true cars (z .stock) (y .0)
 
     -- "It is an own event, also with 0 cars, and changes that zone's stock by a signed amount."
-    pub gate-event : x .zone .events ≡ z .events + 1
+    pub gate-event : step .zone .events ≡ z .events + 1
     gate-event = ap (λ (s : Step). s .zone .events) gate-answer
 
-    pub gate-stock : x .zone .stock ≡ through d cars (z .stock)
+    pub gate-stock : step .zone .stock ≡ through d cars (z .stock)
     gate-stock = ap (λ (s : Step). s .zone .stock) gate-answer
 
     -- It sends nothing: no message with a flag, and no request.
-    pub gate-flag : x .flag ≡ false
+    pub gate-flag : step .flag ≡ false
     gate-flag = ap (λ (s : Step). s .flag) gate-answer
 
-    pub gate-to : x .to ≡ nobody
+    pub gate-to : step .to ≡ nobody
     gate-to = ap (λ (s : Step). s .to) gate-answer
 
-    pub gate-carried : x .carried ≡ nobody
+    pub gate-carried : step .carried ≡ nobody
     gate-carried = ap (λ (s : Step). s .carried) gate-answer

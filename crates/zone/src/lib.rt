@@ -261,6 +261,7 @@ impl Zone {
         self.gate(Direction::Out, cars)
     }
 
+    // Cars go through the gate: the step of both.
     fn gate(mut self, direction: Direction, cars: u8) -> Step
         ensures { λ r. ⌜ r ≡ gateStep self direction cars ⌝ }
     {
