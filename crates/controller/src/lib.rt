@@ -1,7 +1,8 @@
 // A controller's calls: it keeps its one zone and lends it to every call. Each runs the zone part's step by value and stores the next
 // zone; the answer is the step's. Opening a zone needs no loan: it is the zone part's own.
 ghost use mathlib.Core.Path.{_≡_};
-ghost use Rattle.zone.specs.Zone.{sendStep, receiveStep, requestStep, startStep};
+ghost use Rattle.rules.specs.declared.Direction.the-variants.{In, Out};
+ghost use Rattle.zone.specs.Zone.{sendStep, receiveStep, requestStep, startStep, gateStep};
 use zone::Step;
 use zone::Zone;
 
@@ -42,4 +43,22 @@ pub fn start(zone: &mut Zone) -> Step
     let started = (*zone).start();
     *zone = started.zone;
     started
+}
+
+// Cars drive in from the street.
+pub fn enter(zone: &mut Zone, cars: u8) -> Step
+    ensures { λ r. ⌜ (r ≡ gateStep (now (zone .entry)) In cars) × (now (zone .exit) ≡ gateStep (now (zone .entry)) In cars .zone) ⌝ }
+{
+    let entered = (*zone).enter(cars);
+    *zone = entered.zone;
+    entered
+}
+
+// Cars drive out to the street.
+pub fn leave(zone: &mut Zone, cars: u8) -> Step
+    ensures { λ r. ⌜ (r ≡ gateStep (now (zone .entry)) Out cars) × (now (zone .exit) ≡ gateStep (now (zone .entry)) Out cars .zone) ⌝ }
+{
+    let left = (*zone).leave(cars);
+    *zone = left.zone;
+    left
 }

@@ -11,7 +11,7 @@ use borrow.Author.Tests.{eqb-true, ne-eqb}
 use Rattle.rules.specs.Below.{sumBelow}
 use Rattle.rules.specs.Opening.{Opening}
 use Rattle.rules.specs.Sets.{has, nobody, size}
-use Rattle.rules.specs.Site.{Item, message, request, Site, Call, send, receive, start, waits}
+use Rattle.rules.specs.Site.{Item, message, request, Site, Call, send, receive, start, gate, waits}
 use Rattle.rules.specs.Zone.{isPermanent}
 use Rattle.rules.proofs.History.{openH, history, now-run}
 use Rattle.rules.proofs.Kept.{fresh-open, calls-keep}
@@ -98,6 +98,7 @@ taken-none n net c e =
 taken-sums : (n : ℕ) (net : Network) → OnSite n net → (c : Call) → sums n (leaving c (tookRequest c net)) ≡ sumBelow n (λ k. takenIn c net k)
 taken-sums n net site (send a b cars) = taken-none n net (send a b cars) refl
 taken-sums n net site (start a) = taken-none n net (start a) refl
+taken-sums n net site (gate d a cars) = taken-none n net (gate d a cars) refl
 taken-sums n net site (receive a b) = go (below? a n)
   where
     go : (a < n) ⊎ (n ≤ a)

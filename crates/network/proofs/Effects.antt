@@ -13,10 +13,11 @@ use borrow.Author.Tests.{eqb-true, ltb-true}
 use Rattle.rules.specs.Change.{on, join}
 use Rattle.rules.specs.Edition.{isEdition}
 use Rattle.rules.specs.Sets.{has, nobody}
-use Rattle.rules.specs.Site.{Item, message, request, Call, send, receive, start}
+use Rattle.rules.specs.Site.{Item, message, request, Call, send, receive, start, gate}
 use Rattle.rules.specs.Zone.{isPermanent, checkpointAfter, requested, targets, carried}
 use Rattle.rules.specs.declared.Checkpoint.{Checkpoint}
 use Rattle.rules.specs.declared.Checkpoint.the-variants.{None, Mutable, Permanent}
+use Rattle.rules.specs.declared.Direction.{Direction}
 use Rattle.rules.specs.declared.Local.{Local}
 use Rattle.rules.specs.declared.Saved.{Saved}
 use Rattle.rules.specs.Questions.{isCount, isOn, index}
@@ -26,12 +27,12 @@ use Rattle.rules.proofs.Members.{within-difference}
 use Rattle.rules.proofs.SetLaws.{has-nobody}
 use Rattle.rules.proofs.Tests.{and-left, and-right, both-true}
 use Rattle.local.specs.Requesting.{requestingAs, requestedBy, startedBy}
-use Rattle.zone.specs.Zone.{localOf, isZoneSound, requestingStep, sendStep, receiveStep, requestStep, startStep}
+use Rattle.zone.specs.Zone.{localOf, isZoneSound, requestingStep, sendStep, receiveStep, requestStep, startStep, gateStep}
 use Rattle.zone.specs.declared.Step.{Step}
 use Rattle.zone.specs.declared.Zone.{Zone}
 use Rattle.network.specs.Network.{Network, takeStep, answer, isAccepted, stored, storedIf, made}
 use Rattle.network.specs.Polls.{stepOf, targetsOf, beginsWithRequest, takesRequest}
-use Rattle.network.proofs.Network.{send-step, receive-step, request-step, start-step, no-checkpoint-not-permanent}
+use Rattle.network.proofs.Network.{send-step, receive-step, request-step, start-step, gate-step, no-checkpoint-not-permanent}
 
 -- The number of requests on a channel.
 abbrev pub requestsOn : List Item → ℕ
@@ -87,6 +88,10 @@ received-answered z from cars flag e = subst (Answered z false) (sym (receive-st
     kept (Mutable s) now flag = refl
     kept (Permanent s) now flag = refl
 
+gated-answered : (z : Zone) (d : Direction) (cars : ℕ) → eqb (gateStep z d cars .refusal) 0 ≡ true → Answered z false (gateStep z d cars)
+gated-answered z d cars e = subst (Answered z false) (sym (gate-step z d cars e .0))
+    (record { to-within = pow-pos (z .count); shown-kept = λ _. refl; none-sent = λ _. refl })
+
 -- The dependencies of a sound zone are zones of the site.
 deps-within : (z : Zone) → isZoneSound z ≡ true → z .deps < 2 ^ z .count
 unfolding isZoneSound
@@ -131,6 +136,7 @@ abbrev pub isStart : Call → Bool
 isStart (send a b cars) = false
 isStart (receive a b) = false
 isStart (start a) = true
+isStart (gate d a cars) = false
 
 -- Is it a call by which a zone that is not permanent turns so?
 abbrev pub turning : Call → Network → Bool
@@ -150,12 +156,14 @@ answered (receive a b) net = go (net .channel a b)
     go (message cars flag ∷ l) = received-answered (net .zone b) (a + 1) cars flag
     go (request set ∷ l) = requested-answered (net .zone b) set
 answered (start a) net = started-answered (net .zone a)
+answered (gate d a cars) net = gated-answered (net .zone a) d cars
 
 -- The numbers of requests that leave and join the channel from i to j by a call, if it took a request and sends requests to a set.
 abbrev takesFrom : Call → ℕ → ℕ → Bool
 takesFrom (send a b cars) i j = false
 takesFrom (receive a b) i j = eqb i a && eqb j b
 takesFrom (start a) i j = false
+takesFrom (gate d a cars) i j = false
 
 abbrev pub leaving : Call → Bool → ℕ → ℕ → ℕ
 leaving c taken i j = cond (takesFrom c i j && taken) 1 0
@@ -204,6 +212,7 @@ module _ (net : Network) (x : Step) where
   stored-zone (send a b cars) k = refl
   stored-zone (receive a b) k = refl
   stored-zone (start a) k = refl
+  stored-zone (gate d a cars) k = refl
 
   stored-requests : (c : Call) → (turning c net ≡ false → x .to ≡ nobody) → (i j : ℕ)
       → requestsOn (stored c x net .channel i j) + leaving c (takesRequest c net) i j
@@ -222,6 +231,7 @@ module _ (net : Network) (x : Step) where
   stored-requests (start a) h i j =
       let p = request-joins (eqb i a && has (x .to) j) (x .carried) (net .channel i j) in
       omega arith
+  stored-requests (gate d a cars) h i j = rw (h refl, has-nobody j, and-false (eqb i a))
 
   accepted-effect : (c : Call) → Answered (net .zone (stepOf c)) (turning c net) x
       → Effect c net (stored c x net) (x .to) (takesRequest c net) (turning c net)

@@ -1,5 +1,6 @@
 -- A network of two zones whose recording is complete, and one of four zones that a collector polls: the premises of the theorems can be
--- met, and one round of polls is not enough. And a network of edition 2, whose line checks draw no zone into the count.
+-- met, and one round of polls is not enough. And a network of edition 2, whose line checks draw no zone into the count, and one of
+-- edition 3, where cars drive in and out before and after marks.
 use mathlib.Core.Path.{_≡_, refl, sym, _∙_, ap, subst}
 use mathlib.Core.Bool.{Bool, true, false, _&&_, cond, and-false}
 use mathlib.Core.List.{List, [], _∷_, _++_, tail, map}
@@ -10,21 +11,22 @@ use lib.Dec.{eqb, leb, ltb, eqb→eq, leb→le, lit<}
 use Rattle.rules.specs.Opening.{Opening}
 use Rattle.rules.specs.Below.{sumBelow}
 use Rattle.rules.specs.Change.{on, join}
-use Rattle.rules.specs.Cut.{Complete, Cut, Snapshot, shownBy, snapshot}
-use Rattle.rules.specs.Park.{total}
-use Rattle.rules.specs.Edition.{firstEdition, isEdition, isTraffic}
+use Rattle.rules.specs.Cut.{Complete, Cut, Snapshot, moves, present, shownBy, snapshot}
+use Rattle.rules.specs.Park.{inside, total, entries, exits}
+use Rattle.rules.specs.Edition.{firstEdition, isEdition, isTraffic, hasGates}
 use Rattle.rules.specs.Questions.{isCount, isOn}
 use Rattle.rules.specs.Sets.{has}
-use Rattle.rules.specs.Site.{Item, message, request, Call, send, receive, start, waits}
+use Rattle.rules.specs.Site.{Item, message, request, Call, send, receive, start, gate, openS, waits}
 use Rattle.rules.specs.Zone.{isPermanent}
+use Rattle.rules.specs.declared.Direction.the-variants.{In, Out}
 use Rattle.rules.proofs.Finite.{below}
 use Rattle.rules.proofs.SetLaws.{has-only, has-nobody}
 use Rattle.local.specs.Requesting.{requestedBy, startedBy}
-use Rattle.zone.specs.Zone.{isZoneSound, isOther, sendStep, receiveStep, requestStep, startStep}
+use Rattle.zone.specs.Zone.{isZoneSound, isOther, sendStep, receiveStep, requestStep, startStep, gateStep}
 use Rattle.network.specs.Network.{openNetwork, after, acceptedCalls, startsIn, networkSite}
 use Rattle.network.specs.Polls.{Poll, polledAt, OneAfterAnother, Settled, polledSite}
 use Rattle.network.proofs.Network.{network-consistent}
-use Rattle.network.proofs.Polls.{settled-cut}
+use Rattle.network.proofs.Polls.{settled-complete, settled-cut}
 
 -- Zone 2 is opened full.
 abbrev opening : Opening
@@ -184,3 +186,92 @@ pub checks-shown : (map (checksShown .recorded) (0 ∷ 1 ∷ 2 ∷ []) ≡ true 
     × (after checkCalls (openNetwork 3 checked) .channel 1 0 ≡ message 0 false ∷ [])
 unfolding isEdition isTraffic isCount isOn isZoneSound isOther sendStep receiveStep requestStep startStep requestedBy startedBy has
 checks-shown = (refl, refl, refl, refl, refl)
+
+-- ---- gates
+
+-- Three zones of 10 cars in edition 3. Before the marks 5 cars drive into zone 2, which sends 3 to zone 1, from where 4 drive out; 7 drive into
+-- zone 3. Zone 1 starts. Then 0 cars drive into zone 2, which is an own event before its mark; 20 drive into zone 1, behind its mark, and
+-- it sends a car to zone 3, which takes a provisional mark. 200 cars cannot drive out of zone 3; 2 do. Zone 2 takes the request, and all
+-- its 12 cars drive out, behind its mark.
+abbrev gated : Opening
+gated = record { edition = 3; stocks = λ k. 10 }
+
+abbrev gateCalls : List Call
+gateCalls =
+    gate In 1 5
+    ∷ send 1 0 3
+    ∷ receive 1 0
+    ∷ gate Out 0 4
+    ∷ gate In 2 7
+    ∷ start 0
+    ∷ gate In 1 0
+    ∷ gate In 0 20
+    ∷ send 0 2 1
+    ∷ receive 0 2
+    ∷ gate Out 2 200
+    ∷ gate Out 2 2
+    ∷ receive 0 1
+    ∷ gate Out 1 12
+    ∷ []
+
+abbrev gateOnes : List Call
+gateOnes =
+    gate In 1 5
+    ∷ send 1 0 3
+    ∷ receive 1 0
+    ∷ gate Out 0 4
+    ∷ gate In 2 7
+    ∷ start 0
+    ∷ gate In 1 0
+    ∷ gate In 0 20
+    ∷ send 0 2 1
+    ∷ receive 0 2
+    ∷ gate Out 2 2
+    ∷ receive 0 1
+    ∷ gate Out 1 12
+    ∷ []
+
+-- Both rounds are made at the end.
+abbrev gatePolls : ℕ → Poll
+gatePolls k = polledAt gateCalls (openNetwork 3 gated) 14 k
+
+abbrev gatesShown : Snapshot
+gatesShown = shownBy gated gateOnes (polledSite 3 gatePolls)
+
+gates-accepted : acceptedCalls gateCalls (openNetwork 3 gated) ≡ gateOnes
+unfolding isEdition isTraffic hasGates isCount isOn isZoneSound isOther sendStep receiveStep requestStep startStep gateStep requestedBy startedBy has
+gates-accepted = refl
+
+gates-one-start : startsIn (acceptedCalls gateCalls (openNetwork 3 gated)) ≤ 1
+gates-one-start = subst (λ (cs : List Call). startsIn cs ≤ 1) (sym gates-accepted) (omega arith)
+
+gates-settled : Settled 3 gatePolls gatePolls
+unfolding isEdition isTraffic hasGates isCount isOn isZoneSound isOther sendStep receiveStep requestStep startStep gateStep requestedBy startedBy has ones onesIn
+gates-settled = record { sent-kept = λ k h. refl; taken-kept = λ k h. refl; all-taken = refl; some-permanent = (0, lit< tt, refl) }
+
+-- The recording is complete, and what is shown is a consistent cut of the accepted calls, the gate calls among them: zones 1 and 2 with
+-- their events before the marks, that of 0 cars too, and zone 3 not.
+pub gates-complete : Complete (networkSite 3 (after gateCalls (openNetwork 3 gated)))
+gates-complete = settled-complete 3 gated gateCalls gates-one-start (λ k. 14) (λ k. 14) (14, λ k h. (omega arith, omega arith)) gates-settled
+
+pub gates-cut : Cut gated gateOnes gatesShown
+gates-cut = subst (λ (cs : List Call). Cut gated cs (shownBy gated cs (polledSite 3 gatePolls))) gates-accepted
+    (settled-cut 3 gated gateCalls gates-one-start (λ k. 14) (λ k. 14) (14, λ k h. (omega arith, omega arith)) gates-settled)
+
+pub gates-shown : (map (gatesShown .recorded) (0 ∷ 1 ∷ 2 ∷ []) ≡ true ∷ true ∷ false ∷ [])
+    × (map (gatesShown .events) (0 ∷ 1 ∷ 2 ∷ []) ≡ 2 ∷ 3 ∷ 0 ∷ [])
+    × (map (gatesShown .park .stock) (0 ∷ 1 ∷ 2 ∷ []) ≡ 9 ∷ 12 ∷ 10 ∷ [])
+    × (gatesShown .park .channel 1 0 ≡ [])
+unfolding isEdition isTraffic hasGates isCount isOn isZoneSound isOther sendStep receiveStep requestStep startStep gateStep requestedBy startedBy has
+gates-shown = (refl, refl, refl, refl)
+
+-- The recorded total is that of the opening, 30, with the 5 cars that drove in inside the recording and without the 4 that drove out; the
+-- present one has all the entries and exits.
+pub gates-total : (total 3 (gatesShown .park) ≡ 31)
+    × (entries (inside (gatesShown .events) (moves gateOnes (openS gated))) ≡ 5)
+    × (exits (inside (gatesShown .events) (moves gateOnes (openS gated))) ≡ 4)
+    × (total 3 (present (networkSite 3 (after gateCalls (openNetwork 3 gated)))) ≡ 44)
+    × (entries (moves gateOnes (openS gated)) ≡ 32)
+    × (exits (moves gateOnes (openS gated)) ≡ 18)
+unfolding isEdition isTraffic hasGates isCount isOn isZoneSound isOther sendStep receiveStep requestStep startStep gateStep requestedBy startedBy has
+gates-total = (refl, refl, refl, refl, refl, refl)

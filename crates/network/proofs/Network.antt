@@ -2,7 +2,6 @@
 -- stays on its channel and at most one start is accepted.
 use mathlib.Core.Path.{_≡_, refl, sym, _∙_, ap, subst}
 use mathlib.Core.Bool.{Bool, true, false, cond, _&&_, not, and-false, false≢true}
-use mathlib.Core.Logic.{_⊎_, inl, inr}
 use mathlib.Core.List.{List, [], _∷_, tail}
 use mathlib.Core.Option.{Option, none, some}
 use Prim.Native.Nat.{ℕ, suc, _+_, _≤_}
@@ -12,39 +11,27 @@ use borrow.Author.Tests.{eqb-true, leb-true, not-true}
 use Rattle.rules.specs.Change.{on, join, cons-if}
 use Rattle.rules.specs.Opening.{Opening}
 use Rattle.rules.specs.Cut.{May, Allowed, run, Complete, Cut, shownBy, snapshot}
-use Rattle.rules.specs.Questions.{Question, ask, Among, index}
+use Rattle.rules.specs.Questions.{index}
 use Rattle.rules.specs.Sets.{has, nobody}
-use Rattle.rules.specs.Site.{Item, message, request, Site, sendS, popS, requestAllS, receiveS, turnS, requestS, startS, takeS, Call, send, receive, start, stepS, openS}
-use Rattle.rules.specs.Zone.{hasCheckpoint, isPermanent, opened, sentUnder, receivedUnder, started, requested, targets, carried}
+use Rattle.rules.specs.Site.{Item, message, request, Site, sendS, popS, requestAllS, receiveS, turnS, requestS, startS, gateS, takeS, Call, send, receive, start, gate, stepS, openS}
+use Rattle.rules.specs.Zone.{hasCheckpoint, isPermanent, opened, sentUnder, receivedUnder, needed, gated, started, requested, targets, carried}
 use Rattle.rules.specs.declared.Checkpoint.{Checkpoint}
 use Rattle.rules.specs.declared.Checkpoint.the-variants.{None, Mutable, Permanent}
+use Rattle.rules.specs.declared.Direction.{Direction}
 use Rattle.rules.specs.declared.Local.{Local}
 use Rattle.rules.proofs.Guarded.{on-true, on-false, on-map-at, on-same-at}
-use Rattle.rules.proofs.AskLaws.{AllYes, numbers, lacks, not-among, ask-cases}
 use Rattle.rules.proofs.SiteLaws.{site≡}
 use Rattle.rules.proofs.SetLaws.{has-nobody}
 use Rattle.rules.proofs.History.{History, openH, initiatorAfter, stepH}
 use Rattle.rules.proofs.Kept.{Fresh, fresh-open, fresh-call}
 use Rattle.rules.proofs.Consistency.{consistent}
 use Rattle.local.specs.Requesting.{requestingAs, requestedBy, startedBy}
-use Rattle.zone.specs.Zone.{localOf, withLocal, isZoneSound, isOther, refused, accepted, requestingStep, sendStep, receiveStep, requestStep, startStep}
+use Rattle.zone.specs.Zone.{localOf, withLocal, isZoneSound, isOther, accepted, requestingStep, sendStep, receiveStep, requestStep, startStep, gateStep}
 use Rattle.zone.specs.declared.Step.{Step}
 use Rattle.zone.specs.declared.Zone.{Zone}
-use Rattle.zone.proofs.Asks.{sendAsks, receiveAsks, requestAsks, startAsks}
+use Rattle.zone.proofs.Asks.{sendAsks, receiveAsks, requestAsks, startAsks, passed}
+use Rattle.zone.proofs.Gates.{gate-answer, gate-covered, gate-from-three}
 use Rattle.network.specs.Network.{Network, openNetwork, takeStep, answer, isAccepted, sendsRequests, withoutFirst, stored, storedIf, made, after, acceptedCalls, startsIn, networkSite}
-
--- Where no question has the number 0, an answer with refusal 0 is what the questions guard, and all of them were answered yes.
-pub ask-accepted : {A : Type 0} (number : A → ℕ) (qs : List Question) (f : ℕ → A) (x : A) → ((m : ℕ) → number (f m) ≡ m)
-    → lacks 0 (numbers qs) ≡ true → number (ask qs f x) ≡ 0 → AllYes qs × (ask qs f x ≡ x)
-ask-accepted {A} number qs f x named n e = go (ask-cases qs f x)
-  where
-    go : (AllYes qs × (ask qs f x ≡ x)) ⊎ ((m : ℕ) × Among m (numbers qs) × (ask qs f x ≡ f m)) → AllYes qs × (ask qs f x ≡ x)
-    go (inl h) = h
-    go (inr (m, a, q)) = absurd (not-among m 0 (numbers qs) a n (sym (named m) ∙ sym (ap number q) ∙ e))
-
-passed : (qs : List Question) (z : Zone) (x : Step) → lacks 0 (numbers qs) ≡ true → eqb (ask qs (refused z) x .refusal) 0 ≡ true
-    → AllYes qs × (ask qs (refused z) x ≡ x)
-passed qs z x n e = ask-accepted (λ (s : Step). s .refusal) qs (refused z) x (λ m. refl) n (eqb-true (ask qs (refused z) x .refusal) 0 e)
 
 -- What an accepted step answers, and what its questions said.
 pub send-step : (z : Zone) (to cars : ℕ) → eqb (sendStep z to cars .refusal) 0 ≡ true
@@ -82,6 +69,13 @@ start-step z e =
     let r = passed (startAsks z) z
     (requestingStep z (startedBy (index (z .number)) (localOf z))) refl e in
     (r .1, r .0 .0, not-true (hasCheckpoint (z .checkpoint)) (r .0 .1 .0))
+
+pub gate-step : (z : Zone) (d : Direction) (cars : ℕ) → eqb (gateStep z d cars .refusal) 0 ≡ true
+    → (gateStep z d cars ≡ accepted (withLocal z (gated d cars (localOf z))) false nobody nobody) × (needed d cars ≤ z .stock)
+    × (3 ≤ z .edition)
+gate-step z d cars e =
+    let zero = eqb-true (gateStep z d cars .refusal) 0 e in
+    (gate-answer z d cars zero, gate-covered z d cars zero, gate-from-three z d cars zero)
 
 -- The zone at index k has the number k + 1.
 abbrev pub Numbered : Network → Type 0
@@ -186,6 +180,13 @@ module _ (edition : ℕ) where
   started-site net a num e =
       ap (λ (x : Step). networkSite edition (stored (start a) x net)) (start-step (net .zone a) e .0) ∙ requests-site net a nobody started (num a)
 
+  -- Cars go through a gate.
+  gated-site : (net : Network) (d : Direction) (a cars : ℕ) → eqb (gateStep (net .zone a) d cars .refusal) 0 ≡ true
+      → networkSite edition (stored (gate d a cars) (gateStep (net .zone a) d cars) net) ≡ gateS d a cars (networkSite edition net)
+  gated-site net d a cars e =
+      ap (λ (x : Step). networkSite edition (stored (gate d a cars) x net)) (gate-step (net .zone a) d cars e .0)
+      ∙ site≡ _ _ refl (changed net a _ (gated d cars) refl) (λ i j. refl)
+
   -- An accepted call does to the network what the rules say of the site that it stands for.
   pub refine : (c : Call) (net : Network) → Numbered net → InEdition edition net → isAccepted (answer c net) ≡ true
       → networkSite edition (made c net) ≡ stepS c (networkSite edition net)
@@ -206,18 +207,23 @@ module _ (edition : ℕ) where
   refine (start a) net num same e =
       let x = startStep (net .zone a) in
       ap (networkSite edition) (on-true (eqb (x .refusal) 0) (stored (start a) x) net e) ∙ started-site net a num e
+  refine (gate d a cars) net num same e =
+      let x = gateStep (net .zone a) d cars in
+      ap (networkSite edition) (on-true (eqb (x .refusal) 0) (stored (gate d a cars) x) net e) ∙ gated-site net d a cars e
 
--- What an accepted call shows: the stock covers the cars; the channel holds an item. A start shows only of its own
+-- What an accepted call shows: the stock covers the cars that leave it; the channel holds an item. A start shows only of its own
 -- zone that it has no checkpoint, so that nothing is claimed of it here.
 abbrev pub Shows : Call → Network → Type 0
 Shows (send a b cars) net = cars ≤ net .zone a .stock
 Shows (receive a b) net = net .channel a b ≡ [] → ⊥
 Shows (start a) net = Unit {0}
+Shows (gate d a cars) net = needed d cars ≤ net .zone a .stock
 
 pub shows : (c : Call) (net : Network) → isAccepted (answer c net) ≡ true → Shows c net
 shows (send a b cars) net e = send-step (net .zone a) (b + 1) cars e .2
 shows (receive a b) net e = λ q. false≢true (ap (λ (l : List Item). isAccepted (takeStep (a + 1) l (net .zone b))) (sym q) ∙ e)
 shows (start a) net e = tt
+shows (gate d a cars) net e = gate-step (net .zone a) d cars e .1
 
 -- What no step changes of a zone, such as its number and the count, no call changes.
 module _ (f : Zone → ℕ) (fixed : (z : Zone) (l : Local) → f (withLocal z l) ≡ f z)
@@ -256,11 +262,14 @@ module _ (f : Zone → ℕ) (fixed : (z : Zone) (l : Local) → f (withLocal z l
   call-keeps (start a) =
       let x = startStep (net .zone a) in
       kept-if (start a) x (λ e. zone-kept a x _ (ap (λ (x : Step). x .zone) (start-step (net .zone a) e .0)))
+  call-keeps (gate d a cars) =
+      let x = gateStep (net .zone a) d cars in
+      kept-if (gate d a cars) x (λ e. zone-kept a x _ (ap (λ (x : Step). x .zone) (gate-step (net .zone a) d cars e .0)))
 
 pub numbered : (net : Network) → Numbered net → (c : Call) → Numbered (made c net)
 numbered net num c = call-keeps (λ z. z .number) (λ z l. refl) (λ k. k + 1) net num c
 
-edition-kept : {edition : ℕ} (net : Network) → InEdition edition net → (c : Call) → InEdition edition (made c net)
+pub edition-kept : {edition : ℕ} (net : Network) → InEdition edition net → (c : Call) → InEdition edition (made c net)
 edition-kept {edition} net same c = call-keeps (λ z. z .edition) (λ z l. refl) (λ k. edition) net same c
 
 -- The number of starts accepted before.
@@ -278,6 +287,7 @@ allowed-call : (edition : ℕ) (c : Call) (rest : List Call) (net : Network) (h 
     → startsBefore (h .initiator) + startsIn (c ∷ rest) ≤ 1 → Shows c net → May c (h .now)
 allowed-call edition (send a b cars) rest net h f e one w = subst (May (send a b cars)) e w
 allowed-call edition (receive a b) rest net h f e one w = subst (May (receive a b)) e w
+allowed-call edition (gate d a cars) rest net h f e one w = subst (May (gate d a cars)) e w
 allowed-call edition (start a) rest net h f e one w = go (h .initiator) refl one
   where
     go : (o : Option ℕ) → h .initiator ≡ o → startsBefore o + suc (startsIn rest) ≤ 1 → May (start a) (h .now)
@@ -288,6 +298,7 @@ allowed-call edition (start a) rest net h f e one w = go (h .initiator) refl one
 one-left : (c : Call) (rest : List Call) (o : Option ℕ) → startsBefore o + startsIn (c ∷ rest) ≤ 1 → startsBefore (initiatorAfter c o) + startsIn rest ≤ 1
 one-left (send a b cars) rest o one = one
 one-left (receive a b) rest o one = one
+one-left (gate d a cars) rest o one = one
 one-left (start a) rest none one = omega arith
 one-left (start a) rest (some x) one = absurd (omega arith)
 

@@ -9,13 +9,15 @@ use borrow.Author.Tests.{leb-true}
 use Rattle.rules.specs.Edition.{firstEdition, isEdition}
 use Rattle.rules.specs.Opening.{Opening}
 use Rattle.rules.specs.Questions.{question, isCount, isOn}
-use Rattle.rules.specs.Site.{Item, message, request, Call, send, receive, start}
-use Rattle.zone.specs.Zone.{isZoneSound, openedZone, openZone, sendStep, receiveStep, requestStep, startStep}
+use Rattle.rules.specs.Site.{Item, message, request, Call, send, receive, start, gate}
+use Rattle.rules.specs.declared.Direction.{Direction}
+use Rattle.zone.specs.Zone.{isZoneSound, openedZone, openZone, sendStep, receiveStep, requestStep, startStep, gateStep}
 use Rattle.zone.specs.declared.ZoneOpened.{ZoneOpened}
 use Rattle.zone.specs.declared.Zone.{Zone}
+use Rattle.zone.proofs.Asks.{ask-accepted}
 use Rattle.network.specs.Network.{Network, openNetwork, takeStep, answer, isAccepted, made, after}
 use Rattle.network.specs.Polls.{stepOf}
-use Rattle.network.proofs.Network.{ask-accepted, Numbered, numbered, call-keeps}
+use Rattle.network.proofs.Network.{Numbered, numbered, call-keeps}
 
 -- An accepted opening hands back the zone that the network has at that index.
 pub opened-zone : (n : ℕ) (o : Opening) (k : ℕ) → openZone (o .edition) n (k + 1) (o .stocks k) .refusal ≡ 0
@@ -52,6 +54,10 @@ refused-start : (z : Zone) → isZoneSound z ≡ false → eqb (startStep z .ref
 unfolding startStep
 refused-start z e = rw e
 
+refused-gate : (z : Zone) (d : Direction) (cars : ℕ) → isZoneSound z ≡ false → eqb (gateStep z d cars .refusal) 0 ≡ false
+unfolding gateStep
+refused-gate z d cars e = rw e
+
 -- All zones have this count.
 abbrev pub Counted : ℕ → Network → Type 0
 Counted n net = (k : ℕ) → net .zone k .count ≡ n
@@ -63,6 +69,7 @@ refused-off n net num same (send a b cars) h = refused-send (net .zone a) (b + 1
 refused-off n net num same (receive a b) h =
     refused-take (net .zone b) (a + 1) (net .channel a b) (unsound (net .zone b) n b (num b) (same b) h)
 refused-off n net num same (start a) h = refused-start (net .zone a) (unsound (net .zone a) n a (num a) (same a) h)
+refused-off n net num same (gate d a cars) h = refused-gate (net .zone a) d cars (unsound (net .zone a) n a (num a) (same a) h)
 
 -- Calls keep the numbers and the counts.
 pub numbers-kept : (cs : List Call) (n : ℕ) (net : Network) → Numbered net → Counted n net

@@ -10,7 +10,7 @@ use borrow.Author.Tests.{ne-eqb}
 use Rattle.rules.specs.Change.{cons-if}
 use Rattle.rules.specs.Opening.{Opening}
 use Rattle.rules.specs.Sets.{size}
-use Rattle.rules.specs.Site.{Call, send, receive, start}
+use Rattle.rules.specs.Site.{Call, send, receive, start, gate}
 use Rattle.rules.specs.Zone.{isPermanent}
 use Rattle.rules.specs.declared.Checkpoint.{Checkpoint}
 use Rattle.rules.specs.declared.Checkpoint.the-variants.{None, Mutable, Permanent}
@@ -47,6 +47,7 @@ starts-more c cs net = go (isAccepted (answer c net)) c (acceptedCalls cs (made 
     go true (send a b cars) l = omega arith
     go true (receive a b) l = omega arith
     go true (start a) l = omega arith
+    go true (gate d a cars) l = omega arith
 
 -- A call by which its zone may turn is counted: as a request taken, or as a start.
 not-turned : (p q s t : Bool) → cond {A = ℕ} (p && q && t) 1 0 ≡ 0 → cond {A = ℕ} (q && s) 1 0 ≡ 0 → p && (q && (s || t)) ≡ false
@@ -102,6 +103,7 @@ module _ (n : ℕ) (net : Network) (quiet : Quiet n net) (c : Call) where
       go (send a b cars) = refl
       go (receive a b) = none-begins (net .channel a b) (none-anywhere n net (quiet .site) (quiet .none-waits) a b)
       go (start a) = refl
+      go (gate d a cars) = refl
 
   none-taken : (k : ℕ) → takenIn c net k ≡ 0
   none-taken k = rw (none-first, and-false (eqb k (stepOf c) && isAccepted (answer c net)))

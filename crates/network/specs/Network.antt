@@ -9,8 +9,8 @@ use lib.Dec.{eqb}
 use Rattle.rules.specs.Opening.{Opening}
 use Rattle.rules.specs.Change.{on, join, cons-if}
 use Rattle.rules.specs.Sets.{has}
-use Rattle.rules.specs.Site.{Item, message, request, Site, Call, send, receive, start}
-use Rattle.zone.specs.Zone.{localOf, openedZone, sendStep, receiveStep, requestStep, startStep}
+use Rattle.rules.specs.Site.{Item, message, request, Site, Call, send, receive, start, gate}
+use Rattle.zone.specs.Zone.{localOf, openedZone, sendStep, receiveStep, requestStep, startStep, gateStep}
 use Rattle.zone.specs.declared.Step.{Step}
 use Rattle.zone.specs.declared.Zone.{Zone}
 
@@ -35,6 +35,7 @@ abbrev pub answer : Call → Network → Option Step
 answer (send a b cars) net = some (sendStep (net .zone a) (b + 1) cars)
 answer (receive a b) net = takeStep (a + 1) (net .channel a b) (net .zone b)
 answer (start a) net = some (startStep (net .zone a))
+answer (gate d a cars) net = some (gateStep (net .zone a) d cars)
 
 -- "Success is 0". A receipt from an empty channel is not accepted.
 abbrev pub isAccepted : Option Step → Bool
@@ -53,7 +54,7 @@ abbrev pub withoutFirst : ℕ → ℕ → Network → Network
 withoutFirst a b net = record { zone = net .zone; channel = λ i j. on (eqb i a && eqb j b) tail (net .channel i j) }
 
 -- What the maker does with the answer to an accepted call: a message joins its channel with the flag ("marked bit") answered; an
--- item that was received leaves its channel.
+-- item that was received leaves its channel; cars that go through a gate are on no channel.
 abbrev pub stored : Call → Step → Network → Network
 stored (send a b cars) x net = record {
   zone = λ k. on (eqb k a) (λ z. x .zone) (net .zone k);
@@ -61,6 +62,7 @@ stored (send a b cars) x net = record {
 }
 stored (receive a b) x net = sendsRequests b x (withoutFirst a b net)
 stored (start a) x net = sendsRequests a x net
+stored (gate d a cars) x net = record { zone = λ k. on (eqb k a) (λ z. x .zone) (net .zone k); channel = net .channel }
 
 -- A refused call changes nothing.
 abbrev pub storedIf : Call → Option Step → Network → Network
@@ -86,6 +88,7 @@ startsIn [] = 0
 startsIn (send a b cars ∷ cs) = startsIn cs
 startsIn (receive a b ∷ cs) = startsIn cs
 startsIn (start a ∷ cs) = suc (startsIn cs)
+startsIn (gate d a cars ∷ cs) = startsIn cs
 
 -- The site of the rules that a network stands for, whose zones were opened in this edition. What is shown of its accepted calls is what the
 -- rules show: `snapshot`.

@@ -9,7 +9,7 @@ use lib.Dec.{eqb}
 use lib.ListN.{take}
 use Rattle.rules.specs.Below.{sumBelow}
 use Rattle.rules.specs.Sets.{nobody, size}
-use Rattle.rules.specs.Site.{Item, message, request, Site, Call, send, receive, start}
+use Rattle.rules.specs.Site.{Item, message, request, Site, Call, send, receive, start, gate}
 use Rattle.rules.specs.Zone.{isPermanent}
 use Rattle.zone.specs.Zone.{localOf}
 use Rattle.zone.specs.declared.Step.{Step}
@@ -21,6 +21,7 @@ abbrev pub stepOf : Call → ℕ
 stepOf (send a b cars) = a
 stepOf (receive a b) = b
 stepOf (start a) = a
+stepOf (gate d a cars) = a
 
 -- Zone k's counter of requests sent grows, with each accepted step of the zone, by the number of zones in the answer's set; `requests`
 -- of the zone part gives it.
@@ -41,6 +42,7 @@ abbrev pub takesRequest : Call → Network → Bool
 takesRequest (send a b cars) net = false
 takesRequest (receive a b) net = beginsWithRequest (net .channel a b)
 takesRequest (start a) net = false
+takesRequest (gate d a cars) net = false
 
 abbrev pub takenIn : Call → Network → ℕ → ℕ
 takenIn c net k = cond (eqb k (stepOf c) && isAccepted (answer c net) && takesRequest c net) 1 0

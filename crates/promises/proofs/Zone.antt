@@ -1,7 +1,8 @@
 -- What the zone part promises to a maker of controllers.
 use mathlib.Core.Path.{_≡_}
 use Rattle.rules.specs.Sets.{size}
-use Rattle.zone.specs.Zone.{openZone, sendStep, receiveStep, requestStep, startStep, nextTarget}
+use Rattle.rules.specs.declared.Direction.the-variants.{In, Out}
+use Rattle.zone.specs.Zone.{openZone, sendStep, receiveStep, requestStep, startStep, gateStep, nextTarget}
 use Rattle.zone.proofs as part
 use Rattle.promises.specs.Promise.{Keeps}
 
@@ -19,6 +20,12 @@ request _ = part.Zone.request.Met.met
 
 pub start : Keeps part.Zone.start.ended part.Zone.start.Symbol.routine (λ _ zone r. r ≡ startStep zone)
 start _ = part.Zone.start.Met.met
+
+pub enter : Keeps part.Zone.enter.ended part.Zone.enter.Symbol.routine (λ _ zone cars r. r ≡ gateStep zone In cars)
+enter _ = part.Zone.enter.Met.met
+
+pub leave : Keeps part.Zone.leave.ended part.Zone.leave.Symbol.routine (λ _ zone cars r. r ≡ gateStep zone Out cars)
+leave _ = part.Zone.leave.Met.met
 
 pub requests : Keeps part.requests.ended part.requests.Symbol.routine (λ _ to r. r ≡ size to)
 requests _ = part.requests.Met.met

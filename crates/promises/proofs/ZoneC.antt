@@ -1,8 +1,9 @@
 -- What the zone part for C (c/cut/zone.h) promises, for every byte pattern of the structs.
 use mathlib.Core.Path.{_≡_}
 use Rattle.rules.specs.Sets.{size}
+use Rattle.rules.specs.declared.Direction.the-variants.{In, Out}
 use Rattle.zone.specs.Zone.{nextTarget}
-use Rattle.zone_c.specs.Plain.{openPlain, sendPlain, receivePlain, requestPlain, startPlain}
+use Rattle.zone_c.specs.Plain.{openPlain, sendPlain, receivePlain, requestPlain, startPlain, gatePlain}
 use Rattle.zone_c.proofs as part
 use Rattle.promises.specs.Promise.{Keeps}
 
@@ -20,6 +21,12 @@ cut-zone-request _ = part.cut_zone_request.Met.met
 
 pub cut-zone-start : Keeps part.cut_zone_start.ended part.cut_zone_start.Symbol.routine (λ _ zone r. r ≡ startPlain zone)
 cut-zone-start _ = part.cut_zone_start.Met.met
+
+pub cut-zone-enter : Keeps part.cut_zone_enter.ended part.cut_zone_enter.Symbol.routine (λ _ zone cars r. r ≡ gatePlain zone In cars)
+cut-zone-enter _ = part.cut_zone_enter.Met.met
+
+pub cut-zone-leave : Keeps part.cut_zone_leave.ended part.cut_zone_leave.Symbol.routine (λ _ zone cars r. r ≡ gatePlain zone Out cars)
+cut-zone-leave _ = part.cut_zone_leave.Met.met
 
 pub cut-zone-requests : Keeps part.cut_zone_requests.ended part.cut_zone_requests.Symbol.routine (λ _ to r. r ≡ size to)
 cut-zone-requests _ = part.cut_zone_requests.Met.met

@@ -5,14 +5,15 @@ use mathlib.Core.Bool.{Bool, true, false, cond}
 use mathlib.Core.List.{List, [], _∷_}
 use Prim.Native.Nat.{ℕ, zero, suc, _≤_}
 use Rattle.rules.specs.Questions.{Question, ask, index}
+use Rattle.rules.specs.declared.Direction.{Direction}
 use Rattle.rules.proofs.Editions.{check-traffic, sent-check, received-check}
-use Rattle.zone.specs.Zone.{localOf, withLocal, refused, sendStep, receiveStep, requestStep, startStep}
+use Rattle.zone.specs.Zone.{localOf, withLocal, refused, sendStep, receiveStep, requestStep, startStep, gateStep}
 use Rattle.zone.specs.declared.Step.{Step}
 use Rattle.zone.specs.declared.Zone.{Zone}
-use Rattle.zone.proofs.Asks.{sendAsks, receiveAsks, requestAsks, startAsks}
+use Rattle.zone.proofs.Asks.{sendAsks, receiveAsks, requestAsks, startAsks, gateAsks}
 
 -- What an accepted step keeps of the zone, the step keeps, whatever its questions.
-step-keeps : {A : Type 0} (f : Zone → A) (qs : List Question) (z : Zone) (x : Step) → f (x .zone) ≡ f z
+pub step-keeps : {A : Type 0} (f : Zone → A) (qs : List Question) (z : Zone) (x : Step) → f (x .zone) ≡ f z
     → f (ask qs (refused z) x .zone) ≡ f z
 step-keeps f [] z x e = e
 step-keeps {A} f (q ∷ qs) z x e = go (q .yes) (step-keeps f qs z x e)
@@ -40,6 +41,10 @@ module _ (z : Zone) where
   pub start-edition : startStep z .zone .edition ≡ z .edition
   unfolding startStep
   start-edition = step-keeps edition (startAsks z) z _ refl
+
+  pub gate-edition : (d : Direction) (cars : ℕ) → gateStep z d cars .zone .edition ≡ z .edition
+  unfolding gateStep
+  gate-edition d cars = step-keeps edition (gateAsks z d cars) z _ refl
 
 -- The zone after n messages of 0 cars sent to another zone.
 abbrev pub afterChecks : ℕ → ℕ → Zone → Zone

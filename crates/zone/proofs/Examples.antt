@@ -7,8 +7,9 @@ use native.Mathlib.Omega.{arith}
 use Rattle.rules.specs.declared.Saved.{Saved}
 use Rattle.rules.specs.declared.Checkpoint.{Checkpoint}
 use Rattle.rules.specs.declared.Checkpoint.the-variants.{None, Mutable, Permanent}
+use Rattle.rules.specs.declared.Direction.the-variants.{In, Out}
 use Rattle.local.specs.Requesting.{requestedBy, startedBy}
-use Rattle.rules.specs.Edition.{firstEdition, isEdition, isTraffic}
+use Rattle.rules.specs.Edition.{firstEdition, isEdition, isTraffic, hasGates}
 use Rattle.rules.specs.Questions.{isCount, isOn}
 use Rattle.zone.specs.Zone.{
   isOther,
@@ -18,6 +19,7 @@ use Rattle.zone.specs.Zone.{
   receiveStep,
   requestStep,
   startStep,
+  gateStep,
 }
 use Rattle.zone.specs.declared.Zone.{Zone}
 use Rattle.zone.specs.declared.Step.{Step}
@@ -106,18 +108,19 @@ table =
     -- In edition 1 a message of 0 cars is treated as any other: it adds to the dependency set, or makes a mutable checkpoint.
     ∷ gives (receiveStep (zone 2 3 8 2 1 None) 3 0 false) 0 (zone 2 3 8 6 2 None) false 0 0
     ∷ gives (receiveStep (zone 2 3 8 2 1 None) 3 0 true) 0 (zone 2 3 8 2 2 (Mutable (saved 8 1))) false 0 0
-    -- The editions defined are 1 and 2, none of 0, 3, 7 and 255; 15 is asked first, and a refused opening hands back edition 1.
+    -- The editions defined are 1 to 3, none of 0, 4, 7 and 255; 15 is asked first, and a refused opening hands back edition 1.
     ∷ opens (openZone 0 2 1 5) 15 (zone 1 2 0 1 0 None)
     ∷ opens (openZone 1 2 1 5) 0 (zoneIn 1 1 2 5 1 0 None)
     ∷ opens (openZone 2 2 1 5) 0 (zoneIn 2 1 2 5 1 0 None)
-    ∷ opens (openZone 3 1 4 5) 15 (zone 1 2 0 1 0 None)
+    ∷ opens (openZone 3 2 1 5) 0 (zoneIn 3 1 2 5 1 0 None)
+    ∷ opens (openZone 4 1 4 5) 15 (zone 1 2 0 1 0 None)
     ∷ opens (openZone 7 2 1 5) 15 (zone 1 2 0 1 0 None)
     ∷ opens (openZone 255 2 1 5) 15 (zone 1 2 0 1 0 None)
     ∷ opens (openZone 2 9 1 5) 2 (zone 1 2 0 1 0 None)
     ∷ opens (openZone 2 3 4 5) 5 (zone 1 2 0 1 0 None)
     -- A zone of an edition that is not defined meets 1.
     ∷ gives (startStep (zoneIn 0 1 2 5 1 0 None)) 1 (zoneIn 0 1 2 5 1 0 None) false 0 0
-    ∷ gives (startStep (zoneIn 3 1 2 5 1 0 None)) 1 (zoneIn 3 1 2 5 1 0 None) false 0 0
+    ∷ gives (startStep (zoneIn 4 1 2 5 1 0 None)) 1 (zoneIn 4 1 2 5 1 0 None) false 0 0
     -- In edition 2 a message of 0 cars is a line check: sent, flagged by a marked sender as ever, and received with either flag, it leaves
     -- the zone as it was; the questions are the same, so that behind own event 1,000 it meets 6.
     ∷ gives (sendStep (zoneIn 2 1 2 5 1 3 None) 2 0) 0 (zoneIn 2 1 2 5 1 3 None) false 0 0
@@ -130,11 +133,53 @@ table =
     ∷ gives (sendStep (zoneIn 2 1 2 5 1 3 None) 2 1) 0 (zoneIn 2 1 2 4 1 4 None) false 0 0
     ∷ gives (receiveStep (zoneIn 2 2 3 8 2 1 None) 3 1 false) 0 (zoneIn 2 2 3 9 6 2 None) false 0 0
     ∷ gives (receiveStep (zoneIn 2 2 3 8 2 1 None) 3 1 true) 0 (zoneIn 2 2 3 9 2 2 (Mutable (saved 8 1))) false 0 0
+    -- In edition 3 line checks are what they were.
+    ∷ gives (sendStep (zoneIn 3 1 2 5 1 3 None) 2 0) 0 (zoneIn 3 1 2 5 1 3 None) false 0 0
+    ∷ gives (receiveStep (zoneIn 3 2 3 8 2 1 None) 3 0 true) 0 (zoneIn 3 2 3 8 2 1 None) false 0 0
+    -- Cars that drive in and out, before a mark and after: one own event, another stock, and nothing else.
+    ∷ gives (gateStep (zoneIn 3 1 2 5 3 7 None) In 4) 0 (zoneIn 3 1 2 9 3 8 None) false 0 0
+    ∷ gives (gateStep (zoneIn 3 1 2 5 3 7 None) Out 4) 0 (zoneIn 3 1 2 1 3 8 None) false 0 0
+    ∷ gives (gateStep (zoneIn 3 1 2 5 3 7 (Mutable (saved 6 2))) In 4) 0 (zoneIn 3 1 2 9 3 8 (Mutable (saved 6 2))) false 0 0
+    ∷ gives (gateStep (zoneIn 3 1 2 5 3 7 (Mutable (saved 6 2))) Out 4) 0 (zoneIn 3 1 2 1 3 8 (Mutable (saved 6 2))) false 0 0
+    ∷ gives (gateStep (zoneIn 3 1 2 5 3 7 (Permanent (saved 5 7))) In 4) 0 (zoneIn 3 1 2 9 3 8 (Permanent (saved 5 7))) false 0 0
+    ∷ gives (gateStep (zoneIn 3 1 2 5 3 7 (Permanent (saved 5 7))) Out 4) 0 (zoneIn 3 1 2 1 3 8 (Permanent (saved 5 7))) false 0 0
+    -- 0 cars are an own event too, both ways.
+    ∷ gives (gateStep (zoneIn 3 1 2 5 3 7 None) In 0) 0 (zoneIn 3 1 2 5 3 8 None) false 0 0
+    ∷ gives (gateStep (zoneIn 3 1 2 5 3 7 None) Out 0) 0 (zoneIn 3 1 2 5 3 8 None) false 0 0
+    ∷ gives (gateStep (zoneIn 3 1 2 5 3 7 (Permanent (saved 5 7))) In 0) 0 (zoneIn 3 1 2 5 3 8 (Permanent (saved 5 7))) false 0 0
+    ∷ gives (gateStep (zoneIn 3 1 2 5 3 7 (Permanent (saved 5 7))) Out 0) 0 (zoneIn 3 1 2 5 3 8 (Permanent (saved 5 7))) false 0 0
+    -- A stock of 65,535, reached and passed.
+    ∷ gives (gateStep (zoneIn 3 1 2 65280 1 3 None) In 255) 0 (zoneIn 3 1 2 65535 1 4 None) false 0 0
+    ∷ gives (gateStep (zoneIn 3 1 2 65281 1 3 None) In 255) 20 (zoneIn 3 1 2 65281 1 3 None) false 0 0
+    ∷ gives (gateStep (zoneIn 3 1 2 65535 1 3 None) In 0) 0 (zoneIn 3 1 2 65535 1 4 None) false 0 0
+    ∷ gives (gateStep (zoneIn 3 1 2 65535 1 3 None) In 1) 20 (zoneIn 3 1 2 65535 1 3 None) false 0 0
+    ∷ gives (gateStep (zoneIn 3 1 2 65535 1 3 (Permanent (saved 9 2))) In 1) 20 (zoneIn 3 1 2 65535 1 3 (Permanent (saved 9 2))) false 0 0
+    -- The whole stock, and a car more.
+    ∷ gives (gateStep (zoneIn 3 1 2 5 1 3 None) Out 5) 0 (zoneIn 3 1 2 0 1 4 None) false 0 0
+    ∷ gives (gateStep (zoneIn 3 1 2 5 1 3 None) Out 6) 7 (zoneIn 3 1 2 5 1 3 None) false 0 0
+    ∷ gives (gateStep (zoneIn 3 1 2 0 1 3 None) Out 0) 0 (zoneIn 3 1 2 0 1 4 None) false 0 0
+    ∷ gives (gateStep (zoneIn 3 1 2 0 1 3 (Permanent (saved 9 2))) Out 1) 7 (zoneIn 3 1 2 0 1 3 (Permanent (saved 9 2))) false 0 0
+    -- Own event 1,000, and the next.
+    ∷ gives (gateStep (zoneIn 3 1 2 5 1 999 None) In 1) 0 (zoneIn 3 1 2 6 1 1000 None) false 0 0
+    ∷ gives (gateStep (zoneIn 3 1 2 6 1 1000 None) In 0) 6 (zoneIn 3 1 2 6 1 1000 None) false 0 0
+    ∷ gives (gateStep (zoneIn 3 1 2 6 1 1000 None) Out 0) 6 (zoneIn 3 1 2 6 1 1000 None) false 0 0
+    -- Editions 1 and 2 have no gates.
+    ∷ gives (gateStep (zoneIn 1 1 2 5 1 3 None) In 1) 15 (zoneIn 1 1 2 5 1 3 None) false 0 0
+    ∷ gives (gateStep (zoneIn 1 1 2 5 1 3 None) Out 1) 15 (zoneIn 1 1 2 5 1 3 None) false 0 0
+    ∷ gives (gateStep (zoneIn 2 1 2 5 1 3 None) In 0) 15 (zoneIn 2 1 2 5 1 3 None) false 0 0
+    ∷ gives (gateStep (zoneIn 2 1 2 5 1 3 None) Out 0) 15 (zoneIn 2 1 2 5 1 3 None) false 0 0
+    -- 1 is asked before 15, 15 before 6, and 6 before 20 and 7.
+    ∷ gives (gateStep (zoneIn 4 1 2 5 1 3 None) In 1) 1 (zoneIn 4 1 2 5 1 3 None) false 0 0
+    ∷ gives (gateStep (zoneIn 2 3 2 5 1 3 None) Out 1) 1 (zoneIn 2 3 2 5 1 3 None) false 0 0
+    ∷ gives (gateStep (zoneIn 2 1 2 65535 1 1000 None) In 1) 15 (zoneIn 2 1 2 65535 1 1000 None) false 0 0
+    ∷ gives (gateStep (zoneIn 2 1 2 5 1 1000 None) Out 6) 15 (zoneIn 2 1 2 5 1 1000 None) false 0 0
+    ∷ gives (gateStep (zoneIn 3 1 2 65535 1 1000 None) In 1) 6 (zoneIn 3 1 2 65535 1 1000 None) false 0 0
+    ∷ gives (gateStep (zoneIn 3 1 2 5 1 1000 None) Out 6) 6 (zoneIn 3 1 2 5 1 1000 None) false 0 0
     ∷ []
 
 -- The two sides of every row are equal.
 pub edges : answers table ≡ expectations table
-unfolding isEdition isTraffic isCount isOn isOther isZoneSound openZone sendStep receiveStep requestStep startStep requestedBy startedBy
+unfolding isEdition isTraffic hasGates isCount isOn isOther isZoneSound openZone sendStep receiveStep requestStep startStep gateStep requestedBy startedBy
 edges = refl
 
 -- A check behind 1,000 others is accepted, since none of them is an own event.

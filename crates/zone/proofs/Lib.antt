@@ -3,3 +3,4 @@ pub mod Asks
 pub mod Examples
 pub mod Targets
 pub mod Checks
+pub mod Gates

@@ -4,11 +4,13 @@ use mathlib.Core.List.{[], _∷_}
 use Prim.Native.Nat.{ℕ, _+_}
 use lib.Dec.{leb, ltb, eqb}
 use lib.Count.{trailingZeros}
-use Rattle.rules.specs.Edition.{firstEdition, isEdition}
+use Rattle.rules.specs.Edition.{firstEdition, isEdition, hasGates}
 use Rattle.rules.specs.Limits.{mostZones, mostCars, mostRecords}
-use Rattle.rules.specs.Questions.{question, ask, index, isCount, isOn}
+use Rattle.rules.specs.Questions.{Question, question, ask, index, isCount, isOn}
 use Rattle.rules.specs.Sets.{nobody, within}
-use Rattle.rules.specs.Zone.{hasCheckpoint, opened, sentUnder, receivedUnder}
+use Rattle.rules.specs.Zone.{hasCheckpoint, opened, sentUnder, receivedUnder, gated}
+use Rattle.rules.specs.declared.Direction.{Direction}
+use Rattle.rules.specs.declared.Direction.the-variants.{In, Out}
 use Rattle.rules.specs.declared.Local.{Local}
 use Rattle.local.specs.Requesting.{requestedBy, startedBy}
 use Rattle.local.specs.declared.Requesting.{Requesting}
@@ -108,6 +110,19 @@ startStep z =
     ask (question 1 (isZoneSound z) ∷ question 11 (not (hasCheckpoint (z .checkpoint))) ∷ [])
     (refused z)
     (requestingStep z (startedBy (index (z .number)) (localOf z)))
+
+-- What a gate step asks last. "an entry to the zone part alone meets 20, after 6"; "An exit beyond the stock meets question 7".
+abbrev pub lastGateQuestion : Direction → (cars stock : ℕ) → Question
+lastGateQuestion In cars stock = question 20 (leb (stock + cars) mostCars)
+lastGateQuestion Out cars stock = question 7 (leb cars stock)
+
+-- Cars go through the zone's gate, of 0 cars too. No zone is named, so that 5 is not asked. Entry: 1, 15, 6, 20. Exit: 1, 15, 6, 7. 15 asks
+-- "does the run's edition have gates?" of the zone's edition.
+unfoldable pub gateStep : Zone → Direction → ℕ → Step
+gateStep z direction cars =
+    ask (question 1 (isZoneSound z) ∷ question 15 (hasGates (z .edition)) ∷ question 6 (hasRoom z) ∷ lastGateQuestion direction cars (z .stock) ∷ [])
+    (refused z)
+    (accepted (withLocal z (gated direction cars (localOf z))) false nobody nobody)
 
 -- The number of the zone to be sent to next: the lowest of the set; 0 where the set is empty.
 unfoldable pub nextTarget : ℕ → ℕ

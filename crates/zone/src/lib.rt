@@ -1,9 +1,12 @@
 // The zone part: one zone's state and its steps, for a controller that has lines of its own. Each step takes the zone and hands back the
 // next one, and answers the number of the first question (docs/RULES.md, section 7) that was answered no, or 0.
 ghost use mathlib.Core.Path.{_≡_};
+ghost use mathlib.Core.List.{[], _∷_};
 ghost use Prim.Native.Nat.{_≤_};
 ghost use Rattle.rules.specs.Limits.{mostZones};
+ghost use Rattle.rules.specs.Questions.{refusal};
 ghost use Rattle.rules.specs.Sets.{size};
+ghost use Rattle.rules.specs.declared.Direction.the-variants.{In, Out};
 ghost use Rattle.zone.specs.Zone.{
   isOther,
   isZoneSound,
@@ -14,9 +17,12 @@ ghost use Rattle.zone.specs.Zone.{
   receiveStep,
   requestStep,
   startStep,
+  lastGateQuestion,
+  gateStep,
 };
 use edition::FIRST_EDITION;
 use rules::Checkpoint;
+use rules::Direction;
 use rules::FEWEST_ZONES;
 use rules::Local;
 use rules::MOST_CARS;
@@ -238,6 +244,68 @@ impl Zone {
             flag: false,
             to: requesting.to,
             carried: requesting.carried,
+        }
+    }
+
+    // Cars drive in from the street.
+    pub fn enter(self, cars: u8) -> Step
+        ensures { λ r. ⌜ r ≡ gateStep self In cars ⌝ }
+    {
+        self.gate(Direction::In, cars)
+    }
+
+    // Cars drive out to the street.
+    pub fn leave(self, cars: u8) -> Step
+        ensures { λ r. ⌜ r ≡ gateStep self Out cars ⌝ }
+    {
+        self.gate(Direction::Out, cars)
+    }
+
+    // Cars go through the gate: the step of both.
+    fn gate(mut self, direction: Direction, cars: u8) -> Step
+        ensures { λ r. ⌜ r ≡ gateStep self direction cars ⌝ }
+    {
+        if !self.is_sound() {
+            return refused(self, 1);
+        }
+        if !edition::has_gates(self.edition) {
+            return refused(self, 15);
+        }
+        if MOST_RECORDS <= self.events {
+            return refused(self, 6);
+        }
+        let last = gate_refusal(direction, cars, self.stock);
+        if last != 0 {
+            return refused(self, last);
+        }
+        let next = local::gate(self.local(), direction, cars);
+        self = self.with_local(next);
+        Step {
+            refusal: 0,
+            zone: self,
+            flag: false,
+            to: 0,
+            carried: 0,
+        }
+    }
+}
+
+// The last question of a gate step, 20 of an entry, 7 of an exit: its number where it is answered no, else 0.
+fn gate_refusal(direction: Direction, cars: u8, stock: u16) -> u8
+    ensures { λ r. ⌜ r ≡ refusal (lastGateQuestion direction cars stock ∷ []) ⌝ }
+{
+    match direction {
+        Direction::In => {
+            if MOST_CARS - (cars as u16) < stock {
+                return 20;
+            }
+            0
+        }
+        Direction::Out => {
+            if stock < cars as u16 {
+                return 7;
+            }
+            0
         }
     }
 }

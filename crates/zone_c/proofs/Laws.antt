@@ -4,15 +4,17 @@ use mathlib.Core.Bool.{Bool, true, false, cond, not}
 use Prim.Native.Nat.{ℕ, _+_}
 use lib.Dec.{leb, ltb, eqb}
 use borrow.Author.Tests.{eqb-true}
+use Rattle.rules.specs.Edition.{hasGates}
 use Rattle.rules.specs.Limits.{mostCars}
 use Rattle.rules.specs.Sets.{within}
 use Rattle.rules.specs.Zone.{hasCheckpoint}
 use Rattle.rules.specs.declared.Checkpoint.{Checkpoint}
 use Rattle.rules.specs.declared.Checkpoint.the-variants.{None, Mutable, Permanent}
-use Rattle.zone.specs.Zone.{isZoneSound, isOther, hasRoom, refused, sendStep, receiveStep, requestStep, startStep}
+use Rattle.rules.specs.declared.Direction.{Direction}
+use Rattle.zone.specs.Zone.{isZoneSound, isOther, hasRoom, refused, sendStep, receiveStep, requestStep, startStep, lastGateQuestion, gateStep}
 use Rattle.zone.specs.declared.Step.{Step}
 use Rattle.zone.specs.declared.Zone.{Zone}
-use Rattle.zone_c.specs.Plain.{markOf, zoneOf, kindOf, savedOf, plainOf, plainStep, answerPlain, sendPlain, receivePlain, requestPlain, startPlain}
+use Rattle.zone_c.specs.Plain.{markOf, zoneOf, kindOf, savedOf, plainOf, plainStep, answerPlain, sendPlain, receivePlain, requestPlain, startPlain, gatePlain}
 
 pub mark-back : (c : Checkpoint) → markOf (kindOf c) (savedOf c) ≡ c
 unfolding markOf
@@ -68,6 +70,12 @@ module _ (z : Zone) where
   unfolding startStep
   start-told = told-if z (isZoneSound z) _ 1 (told-if z (not (hasCheckpoint (z .checkpoint))) _ 11 (told-accepted z _ refl))
 
+  gate-told : (d : Direction) (cars : ℕ) → Told z (gateStep z d cars)
+  unfolding gateStep
+  gate-told d cars =
+      let q = lastGateQuestion d cars (z .stock) in
+      told-if z (isZoneSound z) _ 1 (told-if z (hasGates (z .edition)) _ 15 (told-if z (hasRoom z) _ 6 (told-if z (q .yes) _ (q .number) (told-accepted z _ refl))))
+
   pub send-plain : (to cars : ℕ) → sendPlain (plainOf z) to cars ≡ plainStep (sendStep z to cars)
   unfolding sendPlain
   send-plain to cars = rw (kind-low (z .checkpoint), zone-back z) (send-told to cars .is)
@@ -83,3 +91,7 @@ module _ (z : Zone) where
   pub start-plain : startPlain (plainOf z) ≡ plainStep (startStep z)
   unfolding startPlain
   start-plain = rw (kind-low (z .checkpoint), zone-back z) (start-told .is)
+
+  pub gate-plain : (d : Direction) (cars : ℕ) → gatePlain (plainOf z) d cars ≡ plainStep (gateStep z d cars)
+  unfolding gatePlain
+  gate-plain d cars = rw (kind-low (z .checkpoint), zone-back z) (gate-told d cars .is)

@@ -5,15 +5,16 @@ use Prim.Native.Nat.{ℕ}
 use Rattle.zone.specs.Zone.{openZone}
 use Rattle.zone.specs.declared.Zone.{Zone}
 use Rattle.zone_c.specs.Plain.{zoneOf, plainOf, plainStep, openPlain}
-use Rattle.zone_c.specs.Lists.{ZoneCall, Send, Receive, Request, Start, answer, callPlain, answers, answersPlain, after, afterPlain}
+use Rattle.zone_c.specs.Lists.{ZoneCall, Send, Receive, Request, Start, Gate, answer, callPlain, answers, answersPlain, after, afterPlain}
 use Rattle.zone_c.specs.declared.PlainStep.{PlainStep}
-use Rattle.zone_c.proofs.Laws.{zone-back, send-plain, receive-plain, request-plain, start-plain}
+use Rattle.zone_c.proofs.Laws.{zone-back, send-plain, receive-plain, request-plain, start-plain, gate-plain}
 
 pub call-plain : (c : ZoneCall) (z : Zone) → callPlain c (plainOf z) ≡ plainStep (answer c z)
 call-plain (Send to cars) z = send-plain z to cars
 call-plain (Receive from cars flag) z = receive-plain z from cars flag
 call-plain (Request set) z = request-plain z set
 call-plain Start z = start-plain z
+call-plain (Gate direction cars) z = gate-plain z direction cars
 
 -- From a zone on: the answers are the same, with the zone in each, and so is the zone at the end.
 pub answers-plain : (cs : List ZoneCall) (z : Zone) → answersPlain cs (plainOf z) ≡ map plainStep (answers cs z)

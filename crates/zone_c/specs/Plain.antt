@@ -4,7 +4,8 @@ use Prim.Native.Nat.{ℕ}
 use lib.Dec.{ltb, eqb}
 use Rattle.rules.specs.declared.Checkpoint.{Checkpoint}
 use Rattle.rules.specs.declared.Checkpoint.the-variants.{None, Mutable, Permanent}
-use Rattle.zone.specs.Zone.{openZone, sendStep, receiveStep, requestStep, startStep}
+use Rattle.rules.specs.declared.Direction.{Direction}
+use Rattle.zone.specs.Zone.{openZone, sendStep, receiveStep, requestStep, startStep, gateStep}
 use Rattle.zone.specs.declared.Step.{Step}
 use Rattle.zone.specs.declared.Zone.{Zone}
 use Rattle.zone_c.specs.declared.PlainOpening.{PlainOpening}
@@ -90,3 +91,6 @@ requestPlain p set = ifKind p (answerPlain p (requestStep (zoneOf p) set))
 
 unfoldable pub startPlain : PlainZone → PlainStep
 startPlain p = ifKind p (answerPlain p (startStep (zoneOf p)))
+
+unfoldable pub gatePlain : PlainZone → Direction → ℕ → PlainStep
+gatePlain p direction cars = ifKind p (answerPlain p (gateStep (zoneOf p) direction cars))

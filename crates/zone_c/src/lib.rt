@@ -2,6 +2,7 @@
 // unsound and meets 1; a refused struct comes back equal in every field.
 ghost use mathlib.Core.Path.{_≡_};
 ghost use Rattle.rules.specs.Sets.{size};
+ghost use Rattle.rules.specs.declared.Direction.the-variants.{In, Out};
 ghost use Rattle.zone.specs.Zone.{nextTarget};
 ghost use Rattle.zone_c.specs.Plain.{
   markOf,
@@ -17,6 +18,7 @@ ghost use Rattle.zone_c.specs.Plain.{
   receivePlain,
   requestPlain,
   startPlain,
+  gatePlain,
 };
 use rules::Checkpoint;
 use rules::Saved;
@@ -239,6 +241,28 @@ pub extern "C" fn cut_zone_start(p: PlainZone) -> PlainStep
         return refused(p, 1);
     }
     answer(p, zone_of(p).start())
+}
+
+// Cars drive in from the street.
+#[no_mangle]
+pub extern "C" fn cut_zone_enter(p: PlainZone, cars: u8) -> PlainStep
+    ensures { λ r. ⌜ r ≡ gatePlain p In cars ⌝ }
+{
+    if 2 < p.mark {
+        return refused(p, 1);
+    }
+    answer(p, zone_of(p).enter(cars))
+}
+
+// Cars drive out to the street.
+#[no_mangle]
+pub extern "C" fn cut_zone_leave(p: PlainZone, cars: u8) -> PlainStep
+    ensures { λ r. ⌜ r ≡ gatePlain p Out cars ⌝ }
+{
+    if 2 < p.mark {
+        return refused(p, 1);
+    }
+    answer(p, zone_of(p).leave(cars))
 }
 
 // The number of requests to be sent to the zones of a set.
