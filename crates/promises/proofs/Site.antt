@@ -1,6 +1,7 @@
 -- What the site engine promises to a control room: the calls on a run, and a call on arrays that are lent.
 use denote.Ref.{now}
-use Rattle.run.specs.declared.SiteCall.the-variants.{Send, Receive, Start}
+use Rattle.run.specs.declared.SiteCall.the-variants.{Send, Receive, Start, Gate}
+use Rattle.rules.specs.declared.Direction.the-variants.{In, Out}
 use Rattle.site.specs.Lent.{runIn, answerIn}
 use Rattle.site.proofs as part
 use Rattle.promises.specs.Answers.{OpenAnswers, Answers}
@@ -17,6 +18,12 @@ receive _ = part.receive.Met.met
 
 pub start : Keeps part.start.ended part.start.Symbol.routine (λ _ run zone r. Answers (Start zone) run r)
 start _ = part.start.Met.met
+
+pub enter : Keeps part.enter.ended part.enter.Symbol.routine (λ _ run zone cars r. Answers (Gate In zone cars) run r)
+enter _ = part.enter.Met.met
+
+pub leave : Keeps part.leave.ended part.leave.Symbol.routine (λ _ run zone cars r. Answers (Gate Out zone cars) run r)
+leave _ = part.leave.Met.met
 
 pub call-in : Keeps part.call_in.ended part.call_in.Symbol.routine
     (λ _ head items lens journal call r.

@@ -1,7 +1,8 @@
 -- What the site engine for C (c/cut/site.h) promises, for every byte pattern of the structs and of what is lent.
 use mathlib.Core.Path.{_≡_}
 use denote.Ref.{now}
-use Rattle.run.specs.declared.SiteCall.the-variants.{Send, Receive, Start}
+use Rattle.run.specs.declared.SiteCall.the-variants.{Send, Receive, Start, Gate}
+use Rattle.rules.specs.declared.Direction.the-variants.{In, Out}
 use Rattle.recording.specs.Journal.{recordJournal}
 use Rattle.site_c.specs.Plain.{answerIn, plainIn, openPlain, callPlain, recordPlain, writePlain, readPlain, recordedPlain}
 use Rattle.site_c.proofs as part
@@ -24,6 +25,16 @@ pub cut-site-start : Keeps part.cut_site_start.ended part.cut_site_start.Symbol.
     (λ _ head items lens journal zone r.
     answerIn r (now (items .exit)) (now (lens .exit)) (now (journal .exit)) ≡ callPlain (Start zone) (plainIn head (now (items .entry)) (now (lens .entry)) (now (journal .entry))))
 cut-site-start _ = part.cut_site_start.Met.met
+
+pub cut-site-enter : Keeps part.cut_site_enter.ended part.cut_site_enter.Symbol.routine
+    (λ _ head items lens journal zone cars r.
+    answerIn r (now (items .exit)) (now (lens .exit)) (now (journal .exit)) ≡ callPlain (Gate In zone cars) (plainIn head (now (items .entry)) (now (lens .entry)) (now (journal .entry))))
+cut-site-enter _ = part.cut_site_enter.Met.met
+
+pub cut-site-leave : Keeps part.cut_site_leave.ended part.cut_site_leave.Symbol.routine
+    (λ _ head items lens journal zone cars r.
+    answerIn r (now (items .exit)) (now (lens .exit)) (now (journal .exit)) ≡ callPlain (Gate Out zone cars) (plainIn head (now (items .entry)) (now (lens .entry)) (now (journal .entry))))
+cut-site-leave _ = part.cut_site_leave.Met.met
 
 pub cut-site-record : Keeps part.cut_site_record.ended part.cut_site_record.Symbol.routine
     (λ _ head items lens journal out r.

@@ -9,8 +9,8 @@ use Rattle.run.specs.declared.Answer.{Answer}
 use Rattle.run.specs.declared.Run.{Run}
 use Rattle.run.specs.declared.SiteCall.{SiteCall}
 use Rattle.run.specs.declared.Terms.{Terms}
-use Rattle.journal.specs.declared.Written.{Written}
 use Rattle.recording.specs.Call.{recordCall}
+use Rattle.recording.specs.declared.Recorded.{Recorded}
 
 -- The opening with these terms and stocks answers a.
 abbrev pub OpenAnswers : Terms → List ℕ → Answer → Type 0
@@ -21,5 +21,5 @@ abbrev pub Answers : SiteCall → Run → Answer → Type 0
 Answers c run a = a ≡ answer c run
 
 -- The recording call on this run, lent these bytes, answers w and leaves `bytes` in their stead.
-abbrev pub RecordAnswers : Run → (lent : List ℕ) → Written → (bytes : List ℕ) → Type 0
+abbrev pub RecordAnswers : Run → (lent : List ℕ) → Recorded → (bytes : List ℕ) → Type 0
 RecordAnswers run lent w bytes = (w ≡ recordCall run lent .answer) × (bytes ≡ recordCall run lent .bytes)

@@ -12,8 +12,8 @@ use Rattle.rules.specs.Questions.{question, ask}
 use Rattle.run.specs.State.{hasStarted, termsOf, countOf}
 use Rattle.run.specs.declared.Run.{Run}
 use Rattle.journal.specs.Reading.{readCall}
-use Rattle.journal.specs.Writing.{isReplayed, refusedOutput, writtenOutput}
-use Rattle.recording.specs.Call.{noRequests, snapshotOf, recordCall}
+use Rattle.journal.specs.Writing.{isReplayed, writtenOutput}
+use Rattle.recording.specs.Call.{noRequests, snapshotOf, withTotal, notRecorded, recordedTotal, recordCall}
 use Rattle.recording.specs.Journal.{outputOf, unreadOutput, recordJournal}
 use Rattle.recording.specs.Layout.{recordingBytes}
 use Rattle.recording.specs.declared.JournalRecorded.{JournalRecorded}
@@ -33,19 +33,19 @@ module _ (journal lent after : List ℕ) (r : ℕ) (done : JournalRecorded) (ans
   recording-shown bytes e h p = rw (← answers, ← e, eq-eqb _ _ h) p
 
 -- What is written lies within the lent bytes.
-fits-in : (lent bytes : List ℕ) (a b c d : Bool) → leb (length bytes) (length lent) ≡ d
-    → ask (question 1 a ∷ question 12 b ∷ question 13 c ∷ question 14 d ∷ []) (refusedOutput lent) (writtenOutput lent bytes) .answer .written ≤ length lent
-fits-in lent bytes false b c d e = omega arith
-fits-in lent bytes true false c d e = omega arith
-fits-in lent bytes true true false d e = omega arith
-fits-in lent bytes true true true false e = omega arith
-fits-in lent bytes true true true true e = leb-true (length bytes) (length lent) e
+fits-in : (lent bytes : List ℕ) (total : ℕ) (a b c d : Bool) → leb (length bytes) (length lent) ≡ d
+    → ask (question 1 a ∷ question 12 b ∷ question 13 c ∷ question 14 d ∷ []) (notRecorded lent) (withTotal total (writtenOutput lent bytes)) .answer .written ≤ length lent
+fits-in lent bytes total false b c d e = omega arith
+fits-in lent bytes total true false c d e = omega arith
+fits-in lent bytes total true true false d e = omega arith
+fits-in lent bytes total true true true false e = omega arith
+fits-in lent bytes total true true true true e = leb-true (length bytes) (length lent) e
 
 record-fits : (r : Run) (lent : List ℕ) → recordCall r lent .answer .written ≤ length lent
 unfolding recordCall
 record-fits r lent =
     let bytes = recordingBytes (termsOf (r .head)) (snapshotOf r) in
-    fits-in lent bytes (isReplayed r) (hasStarted (r .head)) (noRequests (countOf (r .head)) (r .channels)) (leb (length bytes) (length lent)) refl
+    fits-in lent bytes (recordedTotal r) (isReplayed r) (hasStarted (r .head)) (noRequests (countOf (r .head)) (r .channels)) (leb (length bytes) (length lent)) refl
 
 pub written-fits : (journal lent : List ℕ) → recordJournal journal lent .answer .written ≤ length lent
 unfolding recordJournal

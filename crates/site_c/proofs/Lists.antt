@@ -23,7 +23,7 @@ use Rattle.journal.specs.Writing.{writeCall}
 use Rattle.recording.specs.Call.{recordCall}
 use Rattle.zone_c.specs.Plain.{kindOf}
 use Rattle.zone_c.proofs.Laws.{mark-back}
-use Rattle.site_c.specs.Plain.{localOf, plainLocal, noPlain, plainAt, localsOf, plainLocals, areKinds, runOf, plainRun, plainAnswer, answerPlain, openPlain, callPlain, afterPlain, plainOutput, recordPlain, writePlain}
+use Rattle.site_c.specs.Plain.{localOf, plainLocal, noPlain, plainAt, localsOf, plainLocals, areKinds, runOf, plainRun, plainAnswer, answerPlain, openPlain, callPlain, afterPlain, plainOutput, plainRecording, recordPlain, writePlain}
 use Rattle.run.specs.Opening.{openCall, termsAs, openingAs}
 use Rattle.run.specs.declared.SiteCall.{SiteCall}
 use Rattle.run.specs.declared.Opening.{Opening}
@@ -83,7 +83,7 @@ module _ (edition count : ℕ) (stocks : List ℕ) (cs : List SiteCall) where
   pub opened-plain : afterPlain cs (openPlain edition count stocks .run) ≡ plainRun (after cs (openCall o .run))
   opened-plain = calls-plain cs (openCall o .run) (open-whole o)
 
-pub record-plain : (r : Run) (lent : List ℕ) → WholeRun r → recordPlain (plainRun r) lent ≡ plainOutput (recordCall r lent)
+pub record-plain : (r : Run) (lent : List ℕ) → WholeRun r → recordPlain (plainRun r) lent ≡ plainRecording (recordCall r lent)
 unfolding recordPlain
 record-plain r lent w = rw (kinds (locals (r .head)), run-back r w)
 

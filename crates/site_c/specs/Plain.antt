@@ -13,7 +13,7 @@ use Rattle.run.specs.declared.Run.{Run}
 use Rattle.journal.specs.Reading.{readCall}
 use Rattle.journal.specs.Writing.{Output, writeCall}
 use Rattle.journal.specs.declared.Written.{Written}
-use Rattle.recording.specs.Call.{recordCall}
+use Rattle.recording.specs.Call.{RecordOutput, recordCall}
 use Rattle.site.specs.Lent.{runIn}
 use Rattle.zone_c.specs.Plain.{markOf, kindOf, savedOf}
 use Rattle.site_c.specs.declared.PlainAnswer.{PlainAnswer}
@@ -26,6 +26,7 @@ use Rattle.site_c.specs.declared.PlainWritten.{PlainWritten}
 use Rattle.run.specs.Calls.{answer}
 use Rattle.run.specs.Opening.{openCall, termsAs, openingAs}
 use Rattle.run.specs.declared.SiteCall.{SiteCall}
+use Rattle.recording.specs.declared.Recorded.{Recorded}
 use Rattle.recording.specs.declared.JournalRecorded.{JournalRecorded}
 use Rattle.run.specs.declared.Head.{Head}
 
@@ -116,18 +117,24 @@ pub record PlainOutput : Type 0 where
   pub answer : PlainWritten
   pub bytes : List ℕ
 
--- Only reading names a position.
+-- Only reading names a position, and only a recording has a total.
 abbrev pub writtenOf : Written → PlainWritten
-writtenOf w = record { refusal = w .refusal; position = 0; written = w .written }
+writtenOf w = record { refusal = w .refusal; position = 0; written = w .written; total = 0 }
 
 abbrev pub plainOutput : Output → PlainOutput
 plainOutput o = record { answer = writtenOf (o .answer); bytes = o .bytes }
 
+abbrev pub recordingOf : Recorded → PlainWritten
+recordingOf w = record { refusal = w .refusal; position = 0; written = w .written; total = w .total }
+
+abbrev pub plainRecording : RecordOutput → PlainOutput
+plainRecording o = record { answer = recordingOf (o .answer); bytes = o .bytes }
+
 abbrev pub refusedPlainOutput : List ℕ → ℕ → ℕ → PlainOutput
-refusedPlainOutput lent n position = record { answer = record { refusal = n; position = position; written = 0 }; bytes = lent }
+refusedPlainOutput lent n position = record { answer = record { refusal = n; position = position; written = 0; total = 0 }; bytes = lent }
 
 unfoldable pub recordPlain : PlainRun → List ℕ → PlainOutput
-recordPlain p lent = cond (areKinds (p .head .zones)) (plainOutput (recordCall (runOf p) lent)) (refusedPlainOutput lent 1 0)
+recordPlain p lent = cond (areKinds (p .head .zones)) (plainRecording (recordCall (runOf p) lent)) (refusedPlainOutput lent 1 0)
 
 unfoldable pub writePlain : PlainRun → List ℕ → PlainOutput
 writePlain p lent = cond (areKinds (p .head .zones)) (plainOutput (writeCall (runOf p) lent)) (refusedPlainOutput lent 1 0)
@@ -139,4 +146,4 @@ readPlain bytes =
 
 -- A journal's recording.
 abbrev pub recordedPlain : JournalRecorded → PlainWritten
-recordedPlain w = record { refusal = w .refusal; position = w .position; written = w .written }
+recordedPlain w = record { refusal = w .refusal; position = w .position; written = w .written; total = w .total }

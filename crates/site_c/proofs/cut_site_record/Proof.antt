@@ -21,8 +21,8 @@ run-of-requires c κs = search needs
 record-requires : tie.Need-record-requires
 record-requires c κs = search needs
 
-written-of-requires : tie.Need-written-of-requires
-written-of-requires c κs = search needs
+recording-of-requires : tie.Need-recording-of-requires
+recording-of-requires c κs = search needs
 
 same-length : tie.Need-same-length
 same-length c = search needs
@@ -33,7 +33,7 @@ returns-2 c =
     let w = c .before .before .before in
     let r = w .before .before in
     let k = yes (r .before .before .are-kinds .ensures) (r .before .if1 .left) in
-    (rw (k, c .written-of .ensures, w .«record» .ensures .0, r .run-of .ensures), rw (k, w .«record» .ensures .1, r .run-of .ensures))
+    (rw (k, c .recording-of .ensures, w .«record» .ensures .0, r .run-of .ensures), rw (k, w .«record» .ensures .1, r .run-of .ensures))
 
 pub cut-site-record-spec : {M : Type 1} → statement M
 cut-site-record-spec =
@@ -44,6 +44,6 @@ cut-site-record-spec =
     returns
     run-of-requires
     record-requires
-    written-of-requires
+    recording-of-requires
     same-length
     returns-2)
