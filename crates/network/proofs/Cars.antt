@@ -13,20 +13,21 @@ use lib.Dec.{eqb, leb}
 use borrow.Author.Tests.{le-leb}
 use Rattle.rules.specs.Below.{sumBelow, sum}
 use Rattle.rules.specs.Change.{cons-if}
-use Rattle.rules.specs.Cut.{Complete, taking, moveOf, moves, carsOn, present, snapshot}
+use Rattle.rules.specs.Cut.{Complete, moves, carsOn, present, snapshot}
 use Rattle.rules.specs.Edition.{isEdition, isTraffic, hasGates}
 use Rattle.rules.specs.Limits.{mostCars}
 use Rattle.rules.specs.Opening.{Opening}
-use Rattle.rules.specs.Park.{Move, hand, take, isInside, counted, insideFrom, inside, total, entries, exits}
+use Rattle.rules.specs.Park.{Move, inside, total, entries, exits}
 use Rattle.rules.specs.Questions.{Question, question, ask, Among, isCount, isOn}
 use Rattle.rules.specs.Site.{Item, message, request, Site, Call, send, receive, start, gate, stepS, openS}
 use Rattle.rules.specs.declared.Direction.the-variants.{In, Out}
 use Rattle.rules.proofs.AskLaws.{AllYes, numbers, lacks, not-among, ask-cases}
-use Rattle.rules.proofs.Conservation.{Between, entries-append, exits-append, present-total, recorded-total}
+use Rattle.rules.proofs.Conservation.{Between, present-total, recorded-total}
 use Rattle.rules.proofs.Editions.{no-cars, no-gates}
 use Rattle.rules.proofs.Lists.{All}
 use Rattle.rules.proofs.QuestionLaws.{on-high}
 use Rattle.rules.proofs.Sums.{sum-at}
+use Rattle.rules.proofs.Ungated.{Ungated, NoneThrough, none-through, none-inside}
 use Rattle.rules.proofs.Tests.{and-left, and-right, eqb-refl, below?}
 use Rattle.zone.specs.Zone.{isZoneSound, isOther, hasRoom, refused, sendStep, receiveStep, requestStep, startStep, gateStep}
 use Rattle.zone.specs.declared.Step.{Step}
@@ -235,63 +236,6 @@ module _ (n : ℕ) (o : Opening) (cs : List Call) (one : startsIn (acceptedCalls
           enough p q = omega (arith, few, room a b cars flag l (named-on n net site b a q) (on-site b p) at)
 
 -- ---- where no gate call is accepted
-
-abbrev pub isGate : Call → Bool
-isGate (send a b cars) = false
-isGate (receive a b) = false
-isGate (start a) = false
-isGate (gate d a cars) = true
-
-abbrev pub Ungated : Call → Type 0
-Ungated c = isGate c ≡ false
-
--- No car drives in or out by these moves, nor then by those of them that are inside a recording.
-abbrev NoneThrough : List Move → Type 0
-NoneThrough ms = (entries ms ≡ 0) × (exits ms ≡ 0)
-
-none-moved : (c : Call) (s : Site) → Ungated c → NoneThrough (moveOf c s)
-none-moved (send a b cars) s e = go (isTraffic (s .edition) cars)
-  where
-    go : (p : Bool) → NoneThrough (cons-if p (hand a b cars) [])
-    go true = (refl, refl)
-    go false = (refl, refl)
-none-moved (receive a b) s e = go (s .channel a b)
-  where
-    by : (p : Bool) → NoneThrough (cons-if p (take a b) [])
-    by true = (refl, refl)
-    by false = (refl, refl)
-
-    go : (l : List Item) → NoneThrough (taking (s .edition) a b l)
-    go [] = (refl, refl)
-    go (message cars flag ∷ l) = by (isTraffic (s .edition) cars)
-    go (request set ∷ l) = (refl, refl)
-none-moved (start a) s e = (refl, refl)
-none-moved (gate d a cars) s e = absurd (true≢false e)
-
-none-through : (cs : List Call) (s : Site) → All Ungated cs → NoneThrough (moves cs s)
-none-through [] s h = (refl, refl)
-none-through (c ∷ cs) s h =
-    let p = none-moved c s (h .0) in
-    let q = none-through cs (stepS c s) (h .1) in
-    let x = entries-append (moveOf c s) (moves cs (stepS c s)) in
-    let y = exits-append (moveOf c s) (moves cs (stepS c s)) in
-    (omega (arith, p .0, q .0), omega (arith, p .1, q .1))
-
-none-inside : (shown n : ℕ → ℕ) (ms : List Move) → NoneThrough ms → NoneThrough (insideFrom shown n ms)
-none-inside shown n [] h = h
-none-inside shown n (m ∷ ms) h =
-    go (isInside shown n m) (none-inside shown (counted n m) ms
-    (omega (arith, h .0, entries-append (m ∷ []) ms), omega (arith, h .1, exits-append (m ∷ []) ms)))
-  where
-    rest : List Move
-    rest = insideFrom shown (counted n m) ms
-
-    first : NoneThrough (m ∷ [])
-    first = (omega (arith, h .0, entries-append (m ∷ []) ms), omega (arith, h .1, exits-append (m ∷ []) ms))
-
-    go : (p : Bool) → NoneThrough rest → NoneThrough (cons-if p m rest)
-    go true i = (omega (arith, first .0, i .0, entries-append (m ∷ []) rest), omega (arith, first .1, i .1, exits-append (m ∷ []) rest))
-    go false i = i
 
 -- Below edition 3 none is accepted.
 module _ {edition : ℕ} (low : edition < 3) where

@@ -14,12 +14,13 @@ use Rattle.rules.specs.Change.{cons-if}
 use Rattle.rules.specs.Below.{sum, sumBelow}
 use Rattle.rules.proofs.Sums.{sum-same, sum-zero, sums}
 use Rattle.rules.specs.Zone.{isPermanent}
-use Rattle.rules.specs.Site.{Item, message, request, Site, Call, send, receive, start, gate, stepS}
-use Rattle.rules.specs.Park.{Move, hand, take, pass, total, counted, isInside, insideFrom, inside, hands, takes}
+use Rattle.rules.specs.Site.{Item, message, request, Site, Call, send, receive, start, gate, stepS, openS}
+use Rattle.rules.specs.Park.{Move, hand, take, pass, total, entries, exits, counted, isInside, insideFrom, inside, hands, takes}
 use Rattle.rules.specs.Edition.{isTraffic}
 use Rattle.rules.specs.Cut.{Snapshot, Cut, run, moves, taking, eventsOf, stockOf}
 use Rattle.rules.proofs.Consistency.{consistent}
-use Rattle.rules.proofs.Lists.{All}
+use Rattle.rules.proofs.Conservation.{Between, recorded-total}
+use Rattle.rules.proofs.Lists.{All, all-map}
 use Rattle.rules.proofs.Tests.{both-true, eqb-refl}
 use Rattle.channel.specs.Channels.{channelIndex, isChannel}
 use Rattle.run.specs.Claims.{WholeRun}
@@ -27,7 +28,7 @@ use Rattle.run.specs.Layout.{sendRecord}
 use Rattle.run.specs.State.{hasStarted, editionOf, countOf, termsOf}
 use Rattle.run.specs.declared.Answer.{Answer}
 use Rattle.run.specs.declared.Run.{Run}
-use Rattle.run.proofs.BelowLaws.{split, sum-end}
+use Rattle.run.proofs.BelowLaws.{split, sum-end, sum-list}
 use Rattle.run.proofs.IndexLaws.{sum-zone}
 use Rattle.run.proofs.Outcome.{Pair, Sited, sited, passed, is-open}
 use Rattle.run.proofs.Parts.{onSite, between, on-site}
@@ -318,6 +319,12 @@ calls-sited (next {ws = ws} {r} c d f typed a more) =
     let p = passed c r a in
     rw d (sited c r p, subst (λ (x : Answer). All (Sited (countOf (x .run .head))) (ruleCallsIn ws)) (p .result) (calls-sited more))
 
+sited-between : (n : ℕ) (c : Call) → Sited n c → Between n c
+sited-between n (send a b cars) p = (p .from, p .to)
+sited-between n (receive a b) p = (p .from, p .to)
+sited-between n (start a) p = p
+sited-between n (gate d a cars) p = p
+
 module _ (count i j : ℕ) (most : count ≤ 8) (off : onSite count i j ≡ false) where
   abbrev Elsewhere : Move → Type 0
   Elsewhere (hand a b cars) = eqb i a && eqb j b ≡ false
@@ -406,6 +413,21 @@ module _ (r : Run) (w : WholeRun r) (e : isReplayed r ≡ true) where
       → totalIn (countOf (r .head)) (length (itemWords (countOf (r .head)) (snapshotOf r))) (recordingBytes (termsOf (r .head)) (snapshotOf r) ++ rest)
       ≡ recordedTotal r
   recording-total rest = total-is (termsOf (r .head)) (snapshotOf r) snapshot-fits (words-on r w e) rest
+
+  -- It is the opening's, with the entries and without the exits inside.
+  all-between : All (Between (countOf (r .head))) (ruleCallsIn (wordsAt r))
+  all-between = all-map (Sited (countOf (r .head))) (Between (countOf (r .head))) (ruleCallsIn (wordsAt r)) (sited-between (countOf (r .head))) all-sited
+
+  pub recording-balances : hasStarted (r .head) ≡ true → noRequests (countOf (r .head)) (r .channels) ≡ true
+      → let inner = inside (snapshotOf r .events) (moves (ruleCallsIn (wordsAt r)) (openS (openingOf (openedWith r)))) in
+      recordedTotal r + exits inner ≡ sum (openingStocks r) + entries inner
+  recording-balances s q =
+      let o = openingOf (openedWith r) in
+      let cs = ruleCallsIn (wordsAt r) in
+      let h = recorded-total (countOf (r .head)) o cs all-between (calls-allowed r w e) (complete-if r w e s q) in
+      let k : sumBelow (countOf (r .head)) (o .stocks) ≡ sum (openingStocks r) =
+      ap (λ (n : ℕ). sumBelow n (o .stocks)) (sym lengths) ∙ sum-list (openingStocks r) in
+      h ∙ ap (λ (n : ℕ). n + entries (inside (snapshotOf r .events) (moves cs (openS o)))) k
 
   -- Their header shows the run's edition.
   pub recording-edition : (rest : List ℕ) → editionIn (wordAt (recordingBytes (termsOf (r .head)) (snapshotOf r) ++ rest) 0) ≡ editionOf (r .head)

@@ -24,3 +24,4 @@ pub mod AskLaws
 pub mod SiteLaws
 pub mod Checks
 pub mod Gates
+pub mod Ungated

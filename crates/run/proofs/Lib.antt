@@ -7,9 +7,9 @@ pub mod Parts
 pub mod SetBounds
 pub mod Refine
 pub mod Checks
-pub mod Gates
 pub mod Reach
 pub mod Conserve
+pub mod Gates
 pub mod Sound
 pub mod Fifo
 pub mod Journal

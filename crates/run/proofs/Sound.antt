@@ -285,3 +285,9 @@ pub true-sound : (o : Opening) (cs : List SiteCall) → AllTyped cs
     → isSound (after cs (openCall o .run)) ≡ true
 true-sound o cs t =
     after-sound cs (openCall o .run) (open-whole o) t (open-sound o)
+
+-- So its stocks plus cars on lines are at most 65,535.
+pub true-few : (o : Opening) (cs : List SiteCall) → AllTyped cs → allCars (after cs (openCall o .run)) ≤ mostCars
+true-few o cs t =
+    let r = after cs (openCall o .run) in
+    subst (λ (n : ℕ). n ≤ mostCars) (sym (cars-at r)) (parts r (true-sound o cs t) .cars)
