@@ -1,12 +1,12 @@
--- The premises of demand 3 are met: every list of calls can be made from every opening, every recording call has an answer, and case A
--- and a case with a line check in edition 2 are instances whose recordings are complete.
+-- The premises of demand 3 are met: every list of calls can be made from every opening, every recording call has an answer, and case A, a
+-- case with a line check in edition 2 and one with gates in edition 3 are instances whose recordings are complete.
 use mathlib.Core.Path.{_≡_, refl, ap}
 use mathlib.Core.List.{List, [], _∷_}
 use Prim.Native.Nat.{ℕ}
 use native.Mathlib.Omega.{arith}
 use lib.ListN.{take, replicate}
 use Rattle.rules.specs.Cut.{Cut}
-use Rattle.rules.specs.Edition.{isEdition, isTraffic}
+use Rattle.rules.specs.Edition.{isEdition, isTraffic, hasGates}
 use Rattle.rules.specs.Questions.{isCount, isOn}
 use Rattle.rules.specs.Sets.{has, members}
 use Rattle.local.specs.Requesting.{requestedBy, startedBy}
@@ -20,12 +20,13 @@ use Rattle.run.specs.State.{localSound, localsSound, channelSound, channelsSoun
 use Rattle.run.specs.declared.Opening.{Opening}
 use Rattle.run.specs.declared.Run.{Run}
 use Rattle.run.specs.declared.SiteCall.{SiteCall}
-use Rattle.run.specs.declared.SiteCall.the-variants.{Send, Receive, Start}
+use Rattle.run.specs.declared.SiteCall.the-variants.{Send, Receive, Start, Gate}
+use Rattle.rules.specs.declared.Direction.the-variants.{In, Out}
 use Rattle.run.specs.declared.Terms.{Terms}
 use Rattle.journal.specs.Format.{journalBytes, decode}
 use Rattle.journal.specs.Reading.{readCall}
-use Rattle.journal.specs.Writing.{sameLocal, sameChannel, sameZones, sameChannels, sameState, replaysTo, isReplayed, Output}
-use Rattle.recording.specs.Call.{noRequests, recordCall}
+use Rattle.journal.specs.Writing.{sameLocal, sameChannel, sameZones, sameChannels, sameState, replaysTo, isReplayed}
+use Rattle.recording.specs.Call.{RecordOutput, noRequests, recordCall}
 use Rattle.recording.specs.Layout.{itemWords, recordingBytes}
 use Rattle.recording.specs.Shown.{shownIn}
 use Rattle.promises.specs.Answers.{OpenAnswers, RecordAnswers}
@@ -43,7 +44,7 @@ pub records : (r : Run) (lent : List ℕ) → RecordAnswers r lent (recordCall r
 records r lent = (refl, refl)
 
 -- So demand 3 says of every list of calls whose recording is complete that this, as the bytes written show it, is a consistent cut.
-abbrev recordedBy : Opening → List SiteCall → ℕ → Output
+abbrev recordedBy : Opening → List SiteCall → ℕ → RecordOutput
 recordedBy o cs lent = recordCall (after cs (openCall o .run)) (replicate lent 0)
 
 recorded-cut : (o : Opening) (cs : List SiteCall) (lent : ℕ) → AllTyped cs → openCall o .refusal ≡ 0
@@ -71,7 +72,7 @@ unfolding openCall isEdition isCount
 openedA = refl
 
 answeredA : recordedBy openingA callsA 16 .answer .refusal ≡ 0
-unfolding isEdition isTraffic has members isCount isOn requestedBy startedBy itemOf messageWord pushed movedDown popped allFree requestedAll isChannel localSound localsSound channelSound channelsSound stocks carsOnChannels partsSound hasStarted openedRun isPair openCall answer journalBytes decode readCall sameLocal sameChannel sameZones sameChannels sameState replaysTo isReplayed noRequests recordCall itemWords recordingBytes
+unfolding isEdition isTraffic hasGates has members isCount isOn requestedBy startedBy itemOf messageWord pushed movedDown popped allFree requestedAll isChannel localSound localsSound channelSound channelsSound stocks carsOnChannels partsSound hasStarted openedRun isPair openCall answer journalBytes decode readCall sameLocal sameChannel sameZones sameChannels sameState replaysTo isReplayed noRequests recordCall itemWords recordingBytes
 answeredA = refl
 
 pub case-a : Cut (openingOf openingA) (acceptedCalls callsA (openCall openingA .run))
@@ -97,12 +98,42 @@ openedCheck = refl
 -- "48 00 80 01 00 0E 80 02 00 15 80 01 00 19": no check is shown.
 shownCheck : recordedBy openingCheck callsCheck 14
     ≡ record {
-      answer = record { refusal = 0; written = 14 };
+      answer = record { refusal = 0; written = 14; total = 60 };
       bytes = 72 ∷ 0 ∷ 128 ∷ 1 ∷ 0 ∷ 14 ∷ 128 ∷ 2 ∷ 0 ∷ 21 ∷ 128 ∷ 1 ∷ 0 ∷ 25 ∷ [];
     }
-unfolding isEdition isTraffic has members isCount isOn requestedBy startedBy itemOf messageWord pushed movedDown popped allFree requestedAll isChannel localSound localsSound channelSound channelsSound stocks carsOnChannels partsSound hasStarted openedRun isPair openCall answer journalBytes decode readCall sameLocal sameChannel sameZones sameChannels sameState replaysTo isReplayed noRequests recordCall itemWords recordingBytes
+unfolding isEdition isTraffic hasGates has members isCount isOn requestedBy startedBy itemOf messageWord pushed movedDown popped allFree requestedAll isChannel localSound localsSound channelSound channelsSound stocks carsOnChannels partsSound hasStarted openedRun isPair openCall answer journalBytes decode readCall sameLocal sameChannel sameZones sameChannels sameState replaysTo isReplayed noRequests recordCall itemWords recordingBytes
 shownCheck = refl
 
 pub case-check : Cut (openingOf openingCheck) (acceptedCalls callsCheck (openCall openingCheck .run))
     (shownIn (take (recordedBy openingCheck callsCheck 14 .answer .written) (recordedBy openingCheck callsCheck 14 .bytes)))
-case-check = recorded-cut openingCheck callsCheck 14 typedCheck openedCheck (ap (λ (x : Output). x .answer .refusal) shownCheck)
+case-check = recorded-cut openingCheck callsCheck 14 typedCheck openedCheck (ap (λ (x : RecordOutput). x .answer .refusal) shownCheck)
+
+-- The same stocks in edition 3, the calls of the journal "68 09 00 0A 00 14 00 1E C0 03 01 04 41 00 C9 09 88 00 C8 32 C1 01 48 00 C0 07" with
+-- an exit beyond the stock between, which is refused. Cars drive in at zone 1 and out at zone 2 before zone 2 starts, which depends on zone
+-- 1; inside are also an exit at zone 1 before its mark, and not inside the entries behind the marks.
+abbrev pub openingGates : Opening
+openingGates = openingAs (termsAs 3 3) (10 ∷ 20 ∷ 30 ∷ [])
+
+abbrev pub callsGates : List SiteCall
+callsGates =
+    Gate In 1 3 ∷ Send 1 2 4 ∷ Receive 1 2 ∷ Gate Out 2 9 ∷ Start 2 ∷ Gate Out 3 31 ∷ Gate In 2 50 ∷ Gate Out 1 1 ∷ Receive 2 1 ∷ Gate In 1 7 ∷ []
+
+typedGates : AllTyped callsGates
+typedGates = (omega arith, (omega arith, (tt, (omega arith, (tt, (omega arith, (omega arith, (omega arith, (tt, (omega arith, tt))))))))))
+
+openedGates : openCall openingGates .refusal ≡ 0
+unfolding openCall isEdition isCount
+openedGates = refl
+
+-- "68 00 80 03 00 08 80 02 00 0F 00 00 00 1E", and the total 53 = 60 + 3 - 9 - 1.
+shownGates : recordedBy openingGates callsGates 14
+    ≡ record {
+      answer = record { refusal = 0; written = 14; total = 53 };
+      bytes = 104 ∷ 0 ∷ 128 ∷ 3 ∷ 0 ∷ 8 ∷ 128 ∷ 2 ∷ 0 ∷ 15 ∷ 0 ∷ 0 ∷ 0 ∷ 30 ∷ [];
+    }
+unfolding isEdition isTraffic hasGates has members isCount isOn requestedBy startedBy itemOf messageWord pushed movedDown popped allFree requestedAll isChannel localSound localsSound channelSound channelsSound stocks carsOnChannels partsSound hasStarted openedRun isPair openCall answer journalBytes decode readCall sameLocal sameChannel sameZones sameChannels sameState replaysTo isReplayed noRequests recordCall itemWords recordingBytes
+shownGates = refl
+
+pub case-gates : Cut (openingOf openingGates) (acceptedCalls callsGates (openCall openingGates .run))
+    (shownIn (take (recordedBy openingGates callsGates 14 .answer .written) (recordedBy openingGates callsGates 14 .bytes)))
+case-gates = recorded-cut openingGates callsGates 14 typedGates openedGates (ap (λ (x : RecordOutput). x .answer .refusal) shownGates)

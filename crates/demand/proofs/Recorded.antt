@@ -1,18 +1,20 @@
 -- Demand 3 of a true run and of the recording call's definition.
 use mathlib.Core.Path.{_≡_, refl, sym, _∙_, ap, ap₂, subst}
 use mathlib.Core.Bool.{Bool, true, false, cond, false≢true}
-use mathlib.Core.Logic.{inl, inr}
+use mathlib.Core.Logic.{inl, inr, _≢_}
 use mathlib.Core.List.{List, [], _∷_, append-nil, map}
-use Prim.Native.Nat.{ℕ, _≤_, _<_}
+use Prim.Native.Nat.{ℕ, _+_, _≤_, _<_}
 use native.Mathlib.Omega.{arith}
 use borrow.Author.Tests.{le-leb, leb-false, ltb-true}
 use lib.Dec.{leb, ltb}
 use lib.Seq.{take-append-seam}
 use lib.ListN.{length, take, drop}
 use Rattle.rules.specs.Change.{cons-if}
-use Rattle.rules.specs.Cut.{Cut, run, present, snapshot}
+use Rattle.rules.specs.Below.{sum}
+use Rattle.rules.specs.Cut.{Cut, Snapshot, run, moves, present, snapshot}
+use Rattle.rules.specs.Park.{inside, total, entries, exits}
 use Rattle.rules.specs.Questions.{Among}
-use Rattle.rules.specs.Site.{Site, Call}
+use Rattle.rules.specs.Site.{Site, Call, openS}
 use Rattle.rules.specs.Zone.{isPermanent, opened}
 use Rattle.run.specs.Calls.{recordOf, answer}
 use Rattle.run.specs.Claims.{AllTyped, WholeRun, acceptedRecords}
@@ -25,20 +27,20 @@ use Rattle.run.specs.declared.Opening.{Opening}
 use Rattle.run.specs.declared.Run.{Run}
 use Rattle.run.specs.declared.SiteCall.{SiteCall}
 use Rattle.run.proofs.Whole.{open-whole, after-whole}
-use Rattle.journal.specs.Format.{openedWith, recordWords, consCall}
+use Rattle.journal.specs.Format.{openedWith, openingStocks, recordWords, consCall}
 use Rattle.journal.specs.Format as format
 use Rattle.journal.specs.declared.Record.{Record}
-use Rattle.journal.specs.Writing.{isReplayed, Output, refusedOutput, writtenOutput}
+use Rattle.journal.specs.Writing.{isReplayed, writtenOutput}
 use Rattle.journal.proofs.Replays.{named}
 use Rattle.journal.proofs.TrueRuns.{true-tells, true-replayed}
 use Rattle.journal.proofs.Words.{decode-record}
 use Rattle.words.specs.Bytes.{wordAt}
 use Rattle.words.specs.Header.{editionIn}
-use Rattle.recording.specs.Call.{ruleCallsIn, noRequests, snapshotOf, recordCall}
+use Rattle.recording.specs.Call.{ruleCallsIn, noRequests, snapshotOf, recordedTotal, RecordOutput, withTotal, notRecorded, recordCall}
 use Rattle.recording.specs.Layout.{recordingBytes}
 use Rattle.recording.specs.Shown.{shownIn}
 use Rattle.recording.proofs.Complete.{complete-if, if-complete}
-use Rattle.recording.proofs.Shows.{recording-shows, recording-edition, recording-cuts}
+use Rattle.recording.proofs.Shows.{recording-shows, recording-edition, recording-balances, recording-cuts}
 use Rattle.recording.proofs.Sized.{recording-most}
 use Rattle.recording.proofs.Zones.{site-is}
 use Rattle.demand.specs.Demand.{Demand}
@@ -66,18 +68,19 @@ abbrev bytesOf : Run → List ℕ
 bytesOf r = recordingBytes (termsOf (r .head)) (snapshotOf r)
 
 -- What each number means that the recording call answers, once question 1 is answered yes.
-record ByNumber (r : Run) (lent : List ℕ) (o : Output) : Type 0 where
-  accepted : o .answer .refusal ≡ 0 → Started r × Free r × (take (o .answer .written) (o .bytes) ≡ bytesOf r)
+record ByNumber (r : Run) (lent : List ℕ) (o : RecordOutput) : Type 0 where
+  accepted : o .answer .refusal ≡ 0 → Started r × Free r × (take (o .answer .written) (o .bytes) ≡ bytesOf r) × (o .answer .total ≡ recordedTotal r)
   accepts : Started r → Free r → length (bytesOf r) ≤ length lent → o .answer .refusal ≡ 0
   refusals : Among (o .answer .refusal) (0 ∷ 12 ∷ 13 ∷ 14 ∷ [])
   twelve : o .answer .refusal ≡ 12 → hasStarted (r .head) ≡ false
   thirteen : o .answer .refusal ≡ 13 → noRequests (countOf (r .head)) (r .channels) ≡ false
   fourteen : o .answer .refusal ≡ 14 → Started r × Free r × (length lent < length (bytesOf r))
+  no-total : o .answer .refusal ≢ 0 → o .answer .total ≡ 0
 
 -- The call's output by the answers to questions 12, 13 and 14.
 answered-by : (r : Run) (lent : List ℕ) (x y z : Bool) → hasStarted (r .head) ≡ x → noRequests (countOf (r .head)) (r .channels) ≡ y
     → leb (length (bytesOf r)) (length lent) ≡ z
-    → ByNumber r lent (cond x (cond y (cond z (writtenOutput lent (bytesOf r)) (refusedOutput lent 14)) (refusedOutput lent 13)) (refusedOutput lent 12))
+    → ByNumber r lent (cond x (cond y (cond z (withTotal (recordedTotal r) (writtenOutput lent (bytesOf r))) (notRecorded lent 14)) (notRecorded lent 13)) (notRecorded lent 12))
 answered-by r lent false y z e f g = record {
   accepted = λ (q : _≡_ {A = ℕ} 12 0). absurd (omega arith);
   accepts = λ a b c. absurd (false≢true (sym e ∙ a));
@@ -85,6 +88,7 @@ answered-by r lent false y z e f g = record {
   twelve = λ q. e;
   thirteen = λ (q : _≡_ {A = ℕ} 12 13). absurd (omega arith);
   fourteen = λ (q : _≡_ {A = ℕ} 12 14). absurd (omega arith);
+  no-total = λ q. refl;
 }
 answered-by r lent true false z e f g = record {
   accepted = λ (q : _≡_ {A = ℕ} 13 0). absurd (omega arith);
@@ -93,6 +97,7 @@ answered-by r lent true false z e f g = record {
   twelve = λ (q : _≡_ {A = ℕ} 13 12). absurd (omega arith);
   thirteen = λ q. f;
   fourteen = λ (q : _≡_ {A = ℕ} 13 14). absurd (omega arith);
+  no-total = λ q. refl;
 }
 answered-by r lent true true false e f g = record {
   accepted = λ (q : _≡_ {A = ℕ} 14 0). absurd (omega arith);
@@ -101,14 +106,16 @@ answered-by r lent true true false e f g = record {
   twelve = λ (q : _≡_ {A = ℕ} 14 12). absurd (omega arith);
   thirteen = λ (q : _≡_ {A = ℕ} 14 13). absurd (omega arith);
   fourteen = λ q. (e, f, leb-false (length (bytesOf r)) (length lent) g);
+  no-total = λ q. refl;
 }
 answered-by r lent true true true e f g = record {
-  accepted = λ q. (e, f, take-append-seam (bytesOf r) (drop (length (bytesOf r)) lent));
+  accepted = λ q. (e, f, take-append-seam (bytesOf r) (drop (length (bytesOf r)) lent), refl);
   accepts = λ a b c. refl;
   refusals = inl refl;
   twelve = λ (q : _≡_ {A = ℕ} 0 12). absurd (omega arith);
   thirteen = λ (q : _≡_ {A = ℕ} 0 13). absurd (omega arith);
   fourteen = λ (q : _≡_ {A = ℕ} 0 14). absurd (omega arith);
+  no-total = λ q. absurd (q refl);
 }
 
 record-numbers : (r : Run) (lent : List ℕ) → isReplayed r ≡ true → ByNumber r lent (recordCall r lent)
@@ -130,6 +137,9 @@ module _ (r : Run) (w : WholeRun r) (e : isReplayed r ≡ true) (lent : List ℕ
   by-number : ByNumber r lent (recordCall r lent)
   by-number = record-numbers r lent e
 
+  replayed-shown : recordCall r lent .answer .refusal ≡ 0 → shownIn (take (recordCall r lent .answer .written) (recordCall r lent .bytes)) ≡ snapshotOf r
+  replayed-shown z = ap shownIn (by-number .accepted z .2 ∙ sym (append-nil (bytesOf r))) ∙ recording-shows r w e []
+
   replayed-demand : Demand (openedWith r) (ruleCallsIn (recordWords r)) r lent (recordCall r lent .answer) (recordCall r lent .bytes)
   replayed-demand = record {
     only-complete = λ z. let a = by-number .accepted z in complete-if r w e (a .0) (a .1);
@@ -137,6 +147,13 @@ module _ (r : Run) (w : WholeRun r) (e : isReplayed r ≡ true) (lent : List ℕ
     cut = λ z. let a = by-number .accepted z in
         subst (λ (bytes : List ℕ). Cut (openingOf (openedWith r)) (ruleCallsIn (recordWords r)) (shownIn bytes)) (append-nil (bytesOf r) ∙ sym (a .2))
         (recording-cuts r w e (a .0) (a .1) []);
+    shows-total = λ z. by-number .accepted z .3 ∙ ap (λ (x : Snapshot). total (countOf (r .head)) (x .park)) (sym (replayed-shown z));
+    balances = λ z. let a = by-number .accepted z in
+        subst (λ (x : Snapshot). let inner = inside (x .events) (moves (ruleCallsIn (recordWords r)) (openS (openingOf (openedWith r)))) in
+        recordCall r lent .answer .total + exits inner ≡ sum (openingStocks r) + entries inner) (sym (replayed-shown z))
+        (ap (λ (n : ℕ). n + exits (inside (snapshotOf r .events) (moves (ruleCallsIn (recordWords r)) (openS (openingOf (openedWith r)))))) (a .3)
+        ∙ recording-balances r w e (a .0) (a .1));
+    no-total = by-number .no-total;
     shows-edition = λ z. ap (λ (bytes : List ℕ). editionIn (wordAt bytes 0)) (by-number .accepted z .2 ∙ sym (append-nil (bytesOf r)))
         ∙ recording-edition r w e [];
     ends = ap present (sym (site-is r w e));
@@ -146,9 +163,6 @@ module _ (r : Run) (w : WholeRun r) (e : isReplayed r ≡ true) (lent : List ℕ
     too-few = λ q. let a = by-number .fourteen q in (complete-if r w e (a .0) (a .1), a .2);
     enough = recording-most r w e;
   }
-
-  replayed-shown : recordCall r lent .answer .refusal ≡ 0 → shownIn (take (recordCall r lent .answer .written) (recordCall r lent .bytes)) ≡ snapshotOf r
-  replayed-shown z = ap shownIn (by-number .accepted z .2 ∙ sym (append-nil (bytesOf r))) ∙ recording-shows r w e []
 
 -- Demand 3 of a true run, in the terms of the list of calls.
 module _ (o : Opening) (opened : openCall o .refusal ≡ 0) (cs : List SiteCall) (typed : AllTyped cs) where
