@@ -134,6 +134,7 @@ impl Answer for Output {
 
     fn check(&self, proved: &Self) -> Check {
         one("refusal", self.answer.refusal, proved.answer.refusal)?;
+        one("total", self.answer.total, proved.answer.total)?;
         one("position", self.answer.position, proved.answer.position)?;
         one("written", self.answer.written, proved.answer.written)?;
         list("bytes", &self.bytes, &proved.bytes)
@@ -142,11 +143,14 @@ impl Answer for Output {
     fn text(&self) -> String {
         let PlainWritten {
             refusal,
+            total,
             position,
             written,
         } = self.answer;
         let bytes = text::bytes(&self.bytes);
-        format!("refusal {refusal}, position {position}, written {written}, lent bytes {bytes}")
+        format!(
+            "refusal {refusal}, total {total}, position {position}, written {written}, lent bytes {bytes}"
+        )
     }
 }
 

@@ -7,7 +7,7 @@ use crate::plain;
 use second::generate::edition_of;
 use second::print::MOST_BYTES;
 use second::random::Random;
-use second::site::{Call, Run};
+use second::site::{Call, Direction, Run};
 use second::{journal, recording};
 
 /// Narrows a refusal number.
@@ -28,6 +28,14 @@ pub fn proved(p: &PlainRun, call: Call) -> PlainAnswer {
         }
         Call::Receipt { from, to } => ffi::cut_site_receive(&mut run, zone(from), zone(to)),
         Call::Start { zone: starter } => ffi::cut_site_start(&mut run, zone(starter)),
+        Call::Gate {
+            direction,
+            zone: at,
+            cars,
+        } => match direction {
+            Direction::In => ffi::cut_site_enter(&mut run, zone(at), cars),
+            Direction::Out => ffi::cut_site_leave(&mut run, zone(at), cars),
+        },
     };
     PlainAnswer { refusal, run }
 }
@@ -39,6 +47,14 @@ pub fn by_header(p: &PlainRun, call: Call) -> PlainAnswer {
         Call::HandOver { from, to, cars } => header::send(&mut run, zone(from), zone(to), cars),
         Call::Receipt { from, to } => header::receive(&mut run, zone(from), zone(to)),
         Call::Start { zone: starter } => header::start(&mut run, zone(starter)),
+        Call::Gate {
+            direction,
+            zone: at,
+            cars,
+        } => match direction {
+            Direction::In => header::enter(&mut run, zone(at), cars),
+            Direction::Out => header::leave(&mut run, zone(at), cars),
+        },
     };
     PlainAnswer { refusal, run }
 }
@@ -75,17 +91,21 @@ pub struct Made {
     pub refusal: u32,
     pub position: usize,
     pub bytes: Vec<u8>,
+    /// The recorded total; a journal has none, which is 0.
+    pub total: u32,
 }
 
-type Writer = fn(&Run, &mut [u8]) -> (u32, usize);
+/// A writer of the second implementation: it gives the refusal, the number of bytes and the total.
+type Writer = fn(&Run, &mut [u8]) -> (u32, usize, u32);
 
 fn made(run: Option<&Run>, write: Writer) -> Made {
     let mut lent = [0; MOST_BYTES];
-    let (refusal, written) = run.map_or((1, 0), |run| write(run, &mut lent));
+    let (refusal, written, total) = run.map_or((1, 0, 0), |run| write(run, &mut lent));
     Made {
         refusal,
         position: 0,
         bytes: lent[..written].to_vec(),
+        total,
     }
 }
 
@@ -94,7 +114,10 @@ pub fn recording(run: Option<&Run>) -> Made {
 }
 
 pub fn journal(run: Option<&Run>) -> Made {
-    made(run, journal::write)
+    made(run, |run, lent| {
+        let (refusal, written) = journal::write(run, lent);
+        (refusal, written, 0)
+    })
 }
 
 /// The edition of a journal's header; 0, which is none, where it has no header.
@@ -110,6 +133,7 @@ pub fn recorded(reading: &journal::Reading) -> Made {
             refusal,
             position: reading.position,
             bytes: Vec::new(),
+            total: 0,
         },
     }
 }
@@ -132,6 +156,7 @@ impl Made {
         };
         let answer = PlainWritten {
             refusal: number(refusal),
+            total: if refusal == 0 { self.total } else { 0 },
             position: self.position,
             written,
         };

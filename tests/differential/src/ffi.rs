@@ -121,6 +121,7 @@ pub struct PlainReading {
 #[derive(Clone, Copy, Debug, PartialEq, Eq)]
 pub struct PlainWritten {
     pub refusal: u8,
+    pub total: u32,
     pub position: usize,
     pub written: usize,
 }
@@ -140,6 +141,9 @@ const _: () = assert!(offset_of!(PlainZone, mark) == 12);
 const _: () = assert!(offset_of!(PlainRun, edition) == 1);
 const _: () = assert!(offset_of!(PlainRun, items) == 100);
 const _: () = assert!(offset_of!(PlainRun, journal) == 2_212);
+const _: () = assert!(offset_of!(PlainWritten, total) == 4);
+const _: () = assert!(offset_of!(PlainWritten, position) == 8);
+const _: () = assert!(offset_of!(PlainWritten, written) == 16);
 
 mod raw {
     use super::*;
@@ -150,6 +154,8 @@ mod raw {
         pub fn cut_zone_receive(zone: PlainZone, from: u8, cars: u8, flag: u8) -> PlainStep;
         pub fn cut_zone_request(zone: PlainZone, set: u8) -> PlainStep;
         pub fn cut_zone_start(zone: PlainZone) -> PlainStep;
+        pub fn cut_zone_enter(zone: PlainZone, cars: u8) -> PlainStep;
+        pub fn cut_zone_leave(zone: PlainZone, cars: u8) -> PlainStep;
         pub fn cut_zone_requests(to: u8) -> u32;
         pub fn cut_zone_next(set: u8) -> u8;
         pub fn cut_site_open(edition: u8, count: u8, stocks: *const u16, n: usize) -> PlainAnswer;
@@ -176,6 +182,22 @@ mod raw {
             lens: *mut u8,
             journal: *mut u16,
             zone: u8,
+        ) -> PlainHeadAnswer;
+        pub fn cut_site_enter(
+            head: PlainHead,
+            items: *mut u16,
+            lens: *mut u8,
+            journal: *mut u16,
+            zone: u8,
+            cars: u8,
+        ) -> PlainHeadAnswer;
+        pub fn cut_site_leave(
+            head: PlainHead,
+            items: *mut u16,
+            lens: *mut u8,
+            journal: *mut u16,
+            zone: u8,
+            cars: u8,
         ) -> PlainHeadAnswer;
         pub fn cut_site_record(
             head: PlainHead,
@@ -226,6 +248,14 @@ pub fn cut_zone_start(zone: PlainZone) -> PlainStep {
     unsafe { raw::cut_zone_start(zone) }
 }
 
+pub fn cut_zone_enter(zone: PlainZone, cars: u8) -> PlainStep {
+    unsafe { raw::cut_zone_enter(zone, cars) }
+}
+
+pub fn cut_zone_leave(zone: PlainZone, cars: u8) -> PlainStep {
+    unsafe { raw::cut_zone_leave(zone, cars) }
+}
+
 pub fn cut_zone_requests(to: u8) -> u32 {
     unsafe { raw::cut_zone_requests(to) }
 }
@@ -264,6 +294,18 @@ pub fn cut_site_receive(run: &mut PlainRun, from: u8, to: u8) -> u8 {
 pub fn cut_site_start(run: &mut PlainRun, zone: u8) -> u8 {
     let (items, lens, journal) = lent!(run);
     let answer = unsafe { raw::cut_site_start(run.head(), items, lens, journal, zone) };
+    run.store(answer)
+}
+
+pub fn cut_site_enter(run: &mut PlainRun, zone: u8, cars: u8) -> u8 {
+    let (items, lens, journal) = lent!(run);
+    let answer = unsafe { raw::cut_site_enter(run.head(), items, lens, journal, zone, cars) };
+    run.store(answer)
+}
+
+pub fn cut_site_leave(run: &mut PlainRun, zone: u8, cars: u8) -> u8 {
+    let (items, lens, journal) = lent!(run);
+    let answer = unsafe { raw::cut_site_leave(run.head(), items, lens, journal, zone, cars) };
     run.store(answer)
 }
 

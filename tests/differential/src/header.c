@@ -22,6 +22,16 @@ uint8_t header_start(cut_run *run, uint8_t zone)
     return cut_start(run, zone);
 }
 
+uint8_t header_enter(cut_run *run, uint8_t zone, uint8_t cars)
+{
+    return cut_enter(run, zone, cars);
+}
+
+uint8_t header_leave(cut_run *run, uint8_t zone, uint8_t cars)
+{
+    return cut_leave(run, zone, cars);
+}
+
 cut_written header_record(const cut_run *run, uint8_t *out, size_t size)
 {
     return cut_record(run, out, size);
@@ -103,5 +113,5 @@ uint64_t header_reading_sum(const cut_reading *reading)
 
 uint64_t header_written_sum(const cut_written *written)
 {
-    return add(add(add(0, written->refusal), written->position), written->written);
+    return add(add(add(add(0, written->refusal), written->total), written->position), written->written);
 }

@@ -19,6 +19,8 @@ mod raw {
         pub fn header_send(run: *mut PlainRun, from: u8, to: u8, cars: u8) -> u8;
         pub fn header_receive(run: *mut PlainRun, from: u8, to: u8) -> u8;
         pub fn header_start(run: *mut PlainRun, zone: u8) -> u8;
+        pub fn header_enter(run: *mut PlainRun, zone: u8, cars: u8) -> u8;
+        pub fn header_leave(run: *mut PlainRun, zone: u8, cars: u8) -> u8;
         pub fn header_record(run: *const PlainRun, out: *mut u8, size: usize) -> PlainWritten;
         pub fn header_write(run: *const PlainRun, out: *mut u8, size: usize) -> PlainWritten;
         pub fn header_opening_sum(opening: *const PlainOpening) -> u64;
@@ -46,6 +48,14 @@ pub fn receive(run: &mut PlainRun, from: u8, to: u8) -> u8 {
 
 pub fn start(run: &mut PlainRun, zone: u8) -> u8 {
     unsafe { raw::header_start(run, zone) }
+}
+
+pub fn enter(run: &mut PlainRun, zone: u8, cars: u8) -> u8 {
+    unsafe { raw::header_enter(run, zone, cars) }
+}
+
+pub fn leave(run: &mut PlainRun, zone: u8, cars: u8) -> u8 {
+    unsafe { raw::header_leave(run, zone, cars) }
 }
 
 pub fn record(run: &PlainRun, out: &mut [u8]) -> PlainWritten {

@@ -1,7 +1,7 @@
 //! What a report says of calls, runs and bytes.
 
 use crate::ffi::PlainRun;
-use second::site::{Call, PLACES};
+use second::site::{Call, Direction, PLACES};
 use std::fmt::Write;
 
 pub fn call(call: Call) -> String {
@@ -9,6 +9,14 @@ pub fn call(call: Call) -> String {
         Call::HandOver { from, to, cars } => format!("cut_site_send({from}, {to}, {cars})"),
         Call::Receipt { from, to } => format!("cut_site_receive({from}, {to})"),
         Call::Start { zone } => format!("cut_site_start({zone})"),
+        Call::Gate {
+            direction,
+            zone,
+            cars,
+        } => match direction {
+            Direction::In => format!("cut_site_enter({zone}, {cars})"),
+            Direction::Out => format!("cut_site_leave({zone}, {cars})"),
+        },
     }
 }
 
