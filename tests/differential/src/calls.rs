@@ -10,13 +10,14 @@ use second::site::{Call, MOST_RECORDS, PLACES};
 
 type Shape = fn(&mut Counts, &mut Random) -> Result<(), Failure>;
 
-/// The shapes take turns; one that stands here twice comes twice as often.
-const SHAPES: [Shape; 18] = [
+/// The shapes take turns; one that stands here more than once comes so much more often.
+const SHAPES: [Shape; 19] = [
     drawn,
     drawn,
     replayed,
     replayed,
     replayed,
+    turned,
     turned,
     turned,
     ring,
