@@ -1,13 +1,13 @@
 //! A checker of demand 3 (docs/RULES.md, demand 3) by replay in the plain car park.
 //!
 //! It looks at a run from outside only: the edition, the opening stocks, the calls with their
-//! numbers, the recording call's number and bytes, and the present stocks and lines. What each
+//! numbers, the recording call's number, bytes and total, and the present stocks and lines. What each
 //! accepted receipt takes, which of it is traffic and when a zone is marked is worked out here, by
 //! the rules, with sets of zone numbers and none of the site engine's code.
 
 use crate::print::MOST_BYTES;
 use crate::recording;
-use crate::site::{Call, Item as RunItem, Run};
+use crate::site::{Call, Direction, Item as RunItem, Run};
 use std::collections::{BTreeSet, VecDeque};
 
 /// Numbers of cars, by sender, then receiver, then order sent.
@@ -23,6 +23,8 @@ pub struct Seen {
     pub answer: u32,
     /// The bytes that it wrote.
     pub bytes: Vec<u8>,
+    /// The recorded total that it answered.
+    pub total: u32,
     /// The present stocks and lines, requests and marked bits left out. Line checks stand among the
     /// hand-overs here; the checker reads the lines without them.
     pub stocks: Vec<u64>,
@@ -32,8 +34,8 @@ pub struct Seen {
 /// One way in which a run breaks demand 3.
 #[derive(Clone, Copy, Debug, PartialEq, Eq, PartialOrd, Ord)]
 pub enum Finding {
-    /// By the rules an accepted call names a zone off the site, takes from an empty line or
-    /// starts a second recording.
+    /// By the rules an accepted call names a zone off the site, takes from an empty line, starts a
+    /// second recording or goes through a gate in an edition without gates.
     Rules,
     /// The recording call answers 0 although the recording is not complete, or the reverse.
     Completion,
@@ -47,6 +49,11 @@ pub enum Finding {
     OutsideStep,
     PresentStocks,
     PresentLines,
+    /// The total answered is not that of the stocks and lines that the bytes show, or not 0 beside a
+    /// refusal.
+    Total,
+    /// The total answered is not "the opening total plus entries less exits inside the recording".
+    Balance,
     /// The recorded zones are not the smallest set.
     Zones,
     /// The events shown for a recorded zone are not those before its start or mark.
@@ -61,7 +68,7 @@ pub enum Finding {
 
 /// Says whether a hand-over is a line check, which is no event and is left out of every line.
 fn is_check(edition: u32, cars: u8) -> bool {
-    edition == 2 && cars == 0
+    edition != 1 && cars == 0
 }
 
 /// The lines read without checks.
@@ -86,6 +93,12 @@ pub enum Event {
     Received {
         from: usize,
         to: usize,
+        count: u32,
+    },
+    Gate {
+        direction: Direction,
+        zone: usize,
+        cars: u8,
         count: u32,
     },
 }
@@ -175,8 +188,31 @@ impl Rules {
                 let set = self.heard[zone].clone();
                 self.send_requests(zone, &BTreeSet::new(), &set);
             }
+            Call::Gate {
+                direction,
+                zone,
+                cars,
+            } => {
+                let zone = self.index(zone)?;
+                if self.edition < 3 {
+                    return None;
+                }
+                self.gate(direction, zone, cars);
+            }
         }
         Some(())
+    }
+
+    /// A gate event, "also with 0 cars": by the rules it is counted, and that is all.
+    fn gate(&mut self, direction: Direction, zone: usize, cars: u8) {
+        self.counts[zone] += 1;
+        let count = self.counts[zone];
+        self.account.events.push(Event::Gate {
+            direction,
+            zone,
+            cars,
+            count,
+        });
     }
 
     fn send(&mut self, from: usize, to: usize, cars: u8) {
@@ -288,6 +324,16 @@ impl Park {
                 };
                 self.stocks[to] += u64::from(cars);
             }
+            Event::Gate {
+                direction,
+                zone,
+                cars,
+                ..
+            } => match direction {
+                Direction::In => self.stocks[zone] += u64::from(cars),
+                Direction::Out if self.stocks[zone] < u64::from(cars) => return false,
+                Direction::Out => self.stocks[zone] -= u64::from(cars),
+            },
         }
         true
     }
@@ -311,6 +357,25 @@ pub struct Recorded {
     pub events: Vec<u32>,
     pub stocks: Vec<u64>,
     pub lines: Lines,
+}
+
+impl Recorded {
+    /// The stocks and the cars on lines together.
+    pub fn total(&self) -> u64 {
+        let cars = self.lines.iter().flatten().flatten();
+        self.stocks.iter().sum::<u64>() + cars.map(|&cars| u64::from(cars)).sum::<u64>()
+    }
+}
+
+/// The cars of the gate events of one direction.
+fn through(events: &[Event], wanted: Direction) -> u64 {
+    let cars = events.iter().map(|event| match *event {
+        Event::Gate {
+            direction, cars, ..
+        } if direction == wanted => u64::from(cars),
+        _ => 0,
+    });
+    cars.sum()
 }
 
 /// Reads the bytes of a recording of an edition and so many zones, or gives nothing for any other
@@ -371,6 +436,7 @@ pub fn compare(seen: &Seen, account: &Account) -> Vec<Finding> {
     find(!account.by_rules, Finding::Rules);
     find(account.complete != (seen.answer == 0), Finding::Completion);
     if seen.answer != 0 {
+        find(seen.total != 0, Finding::Total);
         return findings;
     }
     let zones = seen.opening.len();
@@ -388,6 +454,7 @@ pub fn compare(seen: &Seen, account: &Account) -> Vec<Finding> {
         account.events.iter().partition(|event| match **event {
             Event::Sent { from, count, .. } => count <= recorded.events[from],
             Event::Received { to, count, .. } => count <= recorded.events[to],
+            Event::Gate { zone, count, .. } => count <= recorded.events[zone],
         });
 
     // Replay the inside ones from the opening, then the others from where that ended.
@@ -400,6 +467,16 @@ pub fn compare(seen: &Seen, account: &Account) -> Vec<Finding> {
     find(refused != 0, Finding::OutsideStep);
     find(park.stocks != seen.stocks, Finding::PresentStocks);
     find(park.lines() != present_lines, Finding::PresentLines);
+
+    // Compare the total with what is shown, and with the opening and the gate events inside.
+    let total = u64::from(seen.total);
+    find(total != recorded.total(), Finding::Total);
+    let opening: u64 = seen.opening.iter().map(|&stock| u64::from(stock)).sum();
+    let (entries, exits) = (
+        through(&inside, Direction::In),
+        through(&inside, Direction::Out),
+    );
+    find(total + exits != opening + entries, Finding::Balance);
 
     // Build the smallest set of zones, adding senders until nothing changes.
     let mut smallest = vec![false; zones];
@@ -437,7 +514,7 @@ pub fn compare(seen: &Seen, account: &Account) -> Vec<Finding> {
 /// What is seen of a run of this implementation after a list of calls.
 pub fn look(opening: &[u16], calls: Vec<(Call, u32)>, run: &Run) -> Seen {
     let mut lent = [0; MOST_BYTES];
-    let (answer, written) = recording::write(run, &mut lent);
+    let (answer, written, total) = recording::write(run, &mut lent);
     let mut lines: Lines = empty_table(run.size());
     for (a, b) in run.pairs() {
         for item in &run.lines[a][b] {
@@ -452,6 +529,7 @@ pub fn look(opening: &[u16], calls: Vec<(Call, u32)>, run: &Run) -> Seen {
         calls,
         answer,
         bytes: lent[..written].to_vec(),
+        total,
         stocks: run.zones[..run.size()]
             .iter()
             .map(|zone| u64::from(zone.stock))
@@ -460,13 +538,20 @@ pub fn look(opening: &[u16], calls: Vec<(Call, u32)>, run: &Run) -> Seen {
     }
 }
 
-/// Checks the bytes of a complete recording that someone else wrote after a list of calls with
-/// any arguments. This implementation tells which of the calls are accepted.
-pub fn check_bytes(edition: u32, opening: &[u16], calls: &[Call], bytes: &[u8]) -> Vec<Finding> {
+/// Checks the bytes and the total of a complete recording that someone else wrote after a list of
+/// calls with any arguments. This implementation tells which of the calls are accepted.
+pub fn check_bytes(
+    edition: u32,
+    opening: &[u16],
+    calls: &[Call],
+    bytes: &[u8],
+    total: u32,
+) -> Vec<Finding> {
     let (_, mut run) = Run::open(edition, opening.len() as u32, opening);
     let calls = calls.iter().map(|&call| (call, run.call(call))).collect();
     let mut seen = look(opening, calls, &run);
     seen.answer = 0;
     seen.bytes = bytes.to_vec();
+    seen.total = total;
     check(&seen)
 }

@@ -1,11 +1,11 @@
 //! Journals for comparing two implementations: true ones of many shapes, and damaged ones.
 
 use crate::demand3;
-use crate::edition::{fewest, EDITIONS};
+use crate::edition::{fewest, has_gates};
 use crate::journal::{self, encode};
 use crate::print;
-use crate::random::{cars, finish, stocks_from, Habits, Random};
-use crate::site::{Call, Item, Run, MOST_RECORDS, PLACES};
+use crate::random::{cars, direction, finish, stocks_from, Habits, Random};
+use crate::site::{Call, Direction, Item, Run, MOST_RECORDS, PLACES};
 use crate::zone::Mark;
 
 /// Case A of docs/RULES.md.
@@ -30,6 +30,38 @@ pub const CHECKED: [&[u8]; 4] = [
         4, 17, 0, 5, 0, 7, 1, 0, 1, 0, 1, 0, 1, 0, 1, 0, 1, 0, 1, 0, 1, 0, 1, 0, 1, 0, 1, 0, 1, 0,
         1, 0, 1, 0, 1, 0, 1, 0, 1, 0,
     ],
+];
+
+/// The worked journals of docs/RULES.md for gates.
+pub const GATED: [&[u8]; 3] = [
+    // An exit of a zone that is not recorded and an entry of the starter: the total is 65,790.
+    &[
+        0x64, 3, 0xFF, 0xFF, 0, 0, 0xC1, 0xFF, 0xC8, 0xFF, 0x88, 0x00,
+    ],
+    // Gates before and after the marks of two zones, and of a third that has none.
+    &[
+        0x68, 9, 0, 10, 0, 20, 0, 30, 0xC0, 3, 0x01, 4, 0x41, 0, 0xC9, 9, 0x88, 0, 0xC8, 50, 0xC1,
+        1, 0x48, 0, 0xC0, 7,
+    ],
+    // Gates of 0 cars are own events, a hand-over of 0 cars is a line check.
+    &[0x64, 4, 0, 5, 0, 7, 0xC0, 0, 0xC1, 0, 0x01, 0, 0x80, 0],
+];
+
+/// Those that are refused: with the number, and the position of the record.
+pub const GATES_REFUSED: [(&[u8], u32, usize); 8] = [
+    // 21: the cars on the line count.
+    (&[0x64, 2, 0xFF, 0xFF, 0, 0, 0x01, 0xFF, 0xC0, 1], 19, 1),
+    // Another direction, with a zone of the site and with a wrong one.
+    (&[0x64, 1, 0, 5, 0, 7, 0xC2, 0], 18, 0),
+    (&[0x64, 1, 0, 5, 0, 7, 0xD2, 0], 18, 0),
+    // A wrong zone alone.
+    (&[0x64, 1, 0, 5, 0, 7, 0xD0, 0], 19, 0),
+    // An exit beyond the stock.
+    (&[0x64, 1, 0, 5, 0, 7, 0xC1, 6], 19, 0),
+    // Gates in editions that have none, with a wrong zone too.
+    (&[0x44, 1, 0, 5, 0, 7, 0xC0, 1], 18, 0),
+    (&[0x24, 1, 0, 5, 0, 7, 0xC0, 1], 18, 0),
+    (&[0x44, 1, 0, 5, 0, 7, 0xD0, 0], 18, 0),
 ];
 
 /// A journal with this edition in its header.
@@ -84,6 +116,22 @@ fn hear(run: &mut Run, from: u32, to: u32) {
     run.receipt(from, to);
 }
 
+/// Drawn habits without wrong calls, with gate calls where the edition has gates.
+fn habits(random: &mut Random, edition: u32, zones: u32) -> Habits {
+    Habits::draw(random, zones).tame().gates_of(random, edition)
+}
+
+/// In so many of 100 cases some cars go through a gate, where the run has gates.
+fn street(random: &mut Random, run: &mut Run, percent: u32) {
+    if has_gates(run.edition) && random.chance(percent) {
+        run.call(Call::Gate {
+            direction: direction(random),
+            zone: random.within(1, run.count),
+            cars: cars(random),
+        });
+    }
+}
+
 /// Makes random calls until the run has so many records, or for long enough.
 fn traffic(random: &mut Random, run: &mut Run, habits: &Habits, records: usize) {
     for _ in 0..20_000 {
@@ -99,7 +147,7 @@ fn traffic(random: &mut Random, run: &mut Run, habits: &Habits, records: usize) 
 /// tried again after more traffic.
 fn started(random: &mut Random, edition: u32, zones: u32, before: usize, after: usize) -> Run {
     let mut run = opened(random, edition, zones);
-    let habits = Habits::draw(random, zones).tame().starting(0);
+    let habits = habits(random, edition, zones).starting(0);
     traffic(random, &mut run, &habits, before);
     while run.records.len() < 900 && run.start(random.within(1, zones)) != 0 {
         let next = run.records.len() + 1;
@@ -116,7 +164,7 @@ fn filled(random: &mut Random, edition: u32, zones: u32, records: usize) -> Run 
     let after = random.below(records / 4);
     let mut run = started(random, edition, zones, before, after);
     finish(random, &mut run);
-    let habits = Habits::draw(random, zones).tame().starting(0);
+    let habits = habits(random, edition, zones).starting(0);
     traffic(random, &mut run, &habits, records);
     run
 }
@@ -138,6 +186,7 @@ fn long_line(random: &mut Random, edition: u32, zones: u32) -> Run {
         } else {
             run.receipt(sender, starter);
         }
+        street(random, &mut run, 10);
         if random.chance(10) {
             let other = random.within(1, zones);
             if other != sender {
@@ -163,7 +212,7 @@ fn queued(random: &mut Random, edition: u32, zones: u32) -> Run {
     }
     run.start(random.within(1, zones));
     let records = run.records.len() + random.below(40);
-    let habits = Habits::draw(random, zones).tame();
+    let habits = habits(random, edition, zones);
     traffic(random, &mut run, &habits, records);
     finish(random, &mut run);
     run
@@ -178,9 +227,11 @@ fn turned(random: &mut Random, edition: u32, zones: u32) -> Run {
         run.hand_over(zone + 1, zone, cars);
         hear(&mut run, zone + 1, zone);
         run.receipt(zone + 1, zone);
+        street(random, &mut run, 50);
     }
     run.start(1);
     for zone in 2..=zones {
+        street(random, &mut run, 50);
         if random.chance(70) {
             let cars = cars(random);
             run.hand_over(1, zone, cars);
@@ -189,7 +240,7 @@ fn turned(random: &mut Random, edition: u32, zones: u32) -> Run {
     }
     for _ in 0..random.below(60) {
         // Everything is received but the requests, which wait.
-        let habits = Habits::draw(random, zones).tame();
+        let habits = habits(random, edition, zones);
         match habits.call(random) {
             Call::Receipt { from, to } if from == to + 1 || to == from + 1 => (),
             call => {
@@ -201,6 +252,125 @@ fn turned(random: &mut Random, edition: u32, zones: u32) -> Run {
         run.receipt(1, zone);
     }
     finish(random, &mut run);
+    run
+}
+
+/// A run whose stocks and cars on lines are 65,535 together, some of it by entries where the edition
+/// has gates.
+fn brimful(random: &mut Random, edition: u32, zones: u32) -> Run {
+    let mut stocks: Vec<u16> = (0..zones)
+        .map(|_| random.within(50, 3_000) as u16)
+        .collect();
+    let rest: u32 = stocks[1..].iter().map(|&stock| u32::from(stock)).sum();
+    let mut room = random.within(1, 1_500) * u32::from(has_gates(edition));
+    stocks[0] = (65_535 - rest - room) as u16;
+    let (_, mut run) = Run::open(edition, zones, &stocks);
+    while room > 0 {
+        let from = random.within(1, zones);
+        let cars = cars(random);
+        run.hand_over(from, from % zones + 1, cars);
+        let entering = room.min(random.within(0, 255));
+        room -= entering;
+        run.enter(random.within(1, zones), entering as u8);
+    }
+    run.hand_over(zones, 1, random.within(1, 50) as u8);
+    run
+}
+
+/// A complete run in which a zone is emptied by exits, the last of them of just its stock.
+fn emptied(random: &mut Random, edition: u32, zones: u32) -> Run {
+    let stocks: Vec<u16> = (0..zones).map(|_| random.within(0, 800) as u16).collect();
+    let (_, mut run) = Run::open(edition, zones, &stocks);
+    let zone = random.within(1, zones);
+    let other = zone % zones + 1;
+    if random.chance(50) {
+        hear(&mut run, other, zone);
+    }
+    if random.chance(30) {
+        run.start(zone);
+    }
+    while has_gates(edition) && run.zones[zone as usize - 1].stock != 0 {
+        let stock = run.zones[zone as usize - 1].stock;
+        run.leave(zone, stock.min(255) as u8);
+    }
+    run.leave(zone, 0);
+    run.start(random.within(1, zones));
+    finish(random, &mut run);
+    run
+}
+
+/// A complete run of a full site: a zone that is not recorded lets cars out, and the starter as many
+/// in. The exits are outside the recording, so its total is above 65,535.
+fn above(random: &mut Random, edition: u32, zones: u32) -> Run {
+    let mut stocks: Vec<u16> = (0..zones).map(|_| random.within(20, 90) as u16).collect();
+    let rest: u32 = stocks[1..].iter().map(|&stock| u32::from(stock)).sum();
+    stocks[0] = (65_535 - rest) as u16;
+    let (_, mut run) = Run::open(edition, zones, &stocks);
+    let starter = random.within(2, zones);
+    for zone in 2..=zones {
+        if zone != starter && random.chance(50) {
+            hear(&mut run, zone, starter);
+        }
+    }
+    for _ in 0..random.within(1, 40) {
+        let cars = random.within(1, 255) as u8;
+        run.leave(1, cars);
+        run.enter(starter, cars);
+    }
+    run.start(starter);
+    street(random, &mut run, 50);
+    finish(random, &mut run);
+    run
+}
+
+/// A complete run with gates before the mark of the starter, between it and the mark of a heard
+/// zone, and after both. The heard zone may have a provisional mark before its firm one.
+fn around(random: &mut Random, edition: u32, zones: u32) -> Run {
+    let mut run = opened_for(random, edition, zones, 20);
+    let starter = random.within(1, zones);
+    let heard = starter % zones + 1;
+    let both = |random: &mut Random, run: &mut Run| {
+        for zone in [starter, heard] {
+            for _ in 0..random.below(4) {
+                run.call(Call::Gate {
+                    direction: direction(random),
+                    zone,
+                    cars: cars(random),
+                });
+            }
+        }
+    };
+    both(random, &mut run);
+    hear(&mut run, heard, starter);
+    both(random, &mut run);
+    run.start(starter);
+    both(random, &mut run);
+    if zones > 2 && random.chance(50) {
+        // The mark comes to the heard zone by way of a third one.
+        let third = heard % zones + 1;
+        hear(&mut run, starter, third);
+        both(random, &mut run);
+        hear(&mut run, third, heard);
+        both(random, &mut run);
+    }
+    run.receipt(starter, heard);
+    both(random, &mut run);
+    finish(random, &mut run);
+    both(random, &mut run);
+    run
+}
+
+/// A complete run of hundreds of own events in each zone, most of them gate events.
+fn busy_gates(random: &mut Random, edition: u32) -> Run {
+    let zones = random.within(2, 3);
+    let mut run = opened(random, edition, zones);
+    let gates = 95 * u32::from(has_gates(edition));
+    let habits = Habits::draw(random, zones).tame().starting(0).gates(gates);
+    let records = random.within(800, 960) as usize;
+    traffic(random, &mut run, &habits, records);
+    run.start(random.within(1, zones));
+    finish(random, &mut run);
+    traffic(random, &mut run, &habits, MOST_RECORDS);
     run
 }
 
@@ -231,7 +401,7 @@ fn set_header(bytes: &mut [u8], edition: u32, zones: u32, records: usize) {
 
 /// An edition that is not defined.
 fn unknown(random: &mut Random) -> u32 {
-    [0, 3, 4, 5, 6, 7][random.below(6)]
+    [0, 4, 5, 6, 7][random.below(5)]
 }
 
 /// Puts a record word at a random position of a journal.
@@ -259,6 +429,16 @@ fn small(random: &mut Random, edition: u32) -> (u32, Run) {
     (zones, started(random, edition, zones, 5, after))
 }
 
+/// A word of kind 3 that is not well formed: any one without gates, and with them one of another
+/// direction.
+fn no_gate(random: &mut Random, edition: u32, word: u16) -> u16 {
+    if has_gates(edition) {
+        word & !0x0700 | (random.within(2, 7) as u16) << 8
+    } else {
+        word
+    }
+}
+
 /// A run with one more record word behind it, whatever that word is, and then a few others.
 fn appended(random: &mut Random, run: &Run, word: u16) -> Vec<u8> {
     let mut bytes = bytes_of(run);
@@ -277,8 +457,11 @@ fn appended(random: &mut Random, run: &Run, word: u16) -> Vec<u8> {
     bytes
 }
 
-/// How many kinds of damage there are.
-pub const DAMAGES: usize = 37;
+/// How many kinds of damage without gates there are.
+const PLAIN_DAMAGES: usize = 37;
+
+/// How many kinds of damage there are; the last ones are those with gates.
+pub const DAMAGES: usize = PLAIN_DAMAGES + 5;
 
 /// A damaged journal of one kind, made of one of this edition.
 pub fn damaged(random: &mut Random, edition: u32, kind: usize) -> Vec<u8> {
@@ -334,6 +517,7 @@ pub fn damaged(random: &mut Random, edition: u32, kind: usize) -> Vec<u8> {
         // Records that are not well formed, with right zones or wrong ones.
         16 => {
             let kind3 = random.within(49_152, 65_535) as u16;
+            let kind3 = no_gate(random, edition, kind3);
             insert(random, &mut bytes, kind3);
         }
         17 => {
@@ -357,10 +541,11 @@ pub fn damaged(random: &mut Random, edition: u32, kind: usize) -> Vec<u8> {
             insert(random, &mut bytes, encode(Call::Start { zone: 8 }) | cars);
         }
         21 => {
-            // A kind of 3 in the bits of a record that stood there.
+            // A kind of 3 in the bits of a record that stood there, and another direction if need be.
             if records > 0 {
                 let record = random.below(records);
-                bytes[2 + 2 * (zones as usize + record)] |= 0xC0;
+                bytes[2 + 2 * (zones as usize + record)] |=
+                    if has_gates(edition) { 0xC2 } else { 0xC0 };
             }
         }
         // Records with wrong zones alone.
@@ -387,7 +572,7 @@ pub fn damaged(random: &mut Random, edition: u32, kind: usize) -> Vec<u8> {
         25 => {
             let zones = random.within(2, 7);
             let mut run = opened(random, edition, zones);
-            let habits = Habits::draw(random, zones).tame().starting(0);
+            let habits = habits(random, edition, zones).starting(0);
             traffic(random, &mut run, &habits, 12);
             let zone = off_site(random, zones);
             bytes = appended(random, &run, encode(Call::Start { zone }));
@@ -443,15 +628,15 @@ pub fn damaged(random: &mut Random, edition: u32, kind: usize) -> Vec<u8> {
         32 => {
             let position = random.below(records + 1);
             insert_at(&mut bytes, position, pair(1, 1));
-            insert_at(&mut bytes, position + 1, 0xC000);
+            insert_at(&mut bytes, position + 1, no_gate(random, edition, 0xC000));
         }
         33 => {
             let position = random.below(records + 1);
-            insert_at(&mut bytes, position, 0xC000);
+            insert_at(&mut bytes, position, no_gate(random, edition, 0xC000));
             insert_at(&mut bytes, position + 1, pair(1, 1));
         }
         // Any damage: one bit turned, bytes without any order behind a good header, and the same
-        // records in the other edition.
+        // records in another edition.
         34 => {
             let place = random.below(bytes.len());
             bytes[place] ^= 1 << random.below(8);
@@ -462,13 +647,85 @@ pub fn damaged(random: &mut Random, edition: u32, kind: usize) -> Vec<u8> {
                 *byte = random.within(0, 255) as u8;
             }
         }
-        _ => set_header(&mut bytes, 3 - edition, zones, records),
+        36 => {
+            let other = match edition {
+                1 => 2,
+                2 => 1,
+                _ => random.within(1, 2),
+            };
+            set_header(&mut bytes, other, zones, records);
+        }
+        // Gates, which editions 1 and 2 refuse with 18 each time. Another direction with a wrong zone,
+        // and a wrong zone alone.
+        37 => {
+            let (zones, run) = small(random, edition);
+            let direction = random.within(2, 7) as u16;
+            let bad = gate(Direction::In, off_site(random, zones), cars(random)) | direction << 8;
+            bytes = appended(random, &run, bad);
+        }
+        38 => {
+            let (zones, run) = small(random, edition);
+            let bad = gate(direction(random), off_site(random, zones), cars(random));
+            bytes = appended(random, &run, bad);
+        }
+        // Calls that are refused: 21, with cars on lines, and 7.
+        39 => {
+            let run = brimful(random, edition, zones);
+            let cars = [1, 1, 255][random.below(3)];
+            let bad = gate(Direction::In, random.within(1, zones), cars);
+            bytes = appended(random, &run, bad);
+        }
+        40 => {
+            let stocks = vec![random.within(0, 254) as u16; zones as usize];
+            let (_, mut run) = Run::open(edition, zones, &stocks);
+            for _ in 0..random.below(4) {
+                run.leave(1, random.within(0, 60) as u8);
+            }
+            let stock = run.zones[0].stock as u8;
+            bytes = appended(random, &run, gate(Direction::Out, 1, stock + 1));
+        }
+        // Gates of a true run of edition 3, in an edition without.
+        _ => {
+            let (_, mut run) = Run::open(3, zones, &vec![100; zones as usize]);
+            for _ in 0..random.below(4) {
+                hear(&mut run, 1, 2);
+            }
+            for _ in 0..random.within(1, 5) {
+                let cars = random.within(0, 9) as u8;
+                let zone = random.within(1, zones);
+                let direction = direction(random);
+                run.call(Call::Gate {
+                    direction,
+                    zone,
+                    cars,
+                });
+            }
+            run.start(1);
+            let other = if has_gates(edition) {
+                random.within(1, 2)
+            } else {
+                edition
+            };
+            bytes = with_edition(other, &bytes_of(&run));
+        }
     }
     bytes
 }
 
-/// How many kinds of true runs there are.
-pub const SHAPES: usize = 44;
+/// The record word of a gate call.
+fn gate(direction: Direction, zone: u32, cars: u8) -> u16 {
+    encode(Call::Gate {
+        direction,
+        zone,
+        cars,
+    })
+}
+
+/// How many kinds of true runs there are that any edition has.
+const PLAIN_SHAPES: usize = 44;
+
+/// How many kinds of true runs there are; the last ones have gates if the edition has them.
+pub const SHAPES: usize = PLAIN_SHAPES + 5;
 
 /// A journal of an edition that is accepted, of one kind.
 pub fn accepted(random: &mut Random, edition: u32, kind: usize) -> Vec<u8> {
@@ -478,7 +735,7 @@ pub fn accepted(random: &mut Random, edition: u32, kind: usize) -> Vec<u8> {
         0 => opened(random, edition, zones),
         1..=4 => {
             let mut run = opened(random, edition, zones);
-            let habits = Habits::draw(random, zones).tame().starting(0);
+            let habits = habits(random, edition, zones).starting(0);
             let records = random.below(120);
             traffic(random, &mut run, &habits, records);
             run
@@ -500,7 +757,7 @@ pub fn accepted(random: &mut Random, edition: u32, kind: usize) -> Vec<u8> {
                 run.hand_over(zone, zone % zones + 1, cars);
             }
             run.start(zone);
-            let habits = Habits::draw(random, zones).tame();
+            let habits = habits(random, edition, zones);
             let records = random.below(60);
             traffic(random, &mut run, &habits, records);
             run
@@ -509,7 +766,7 @@ pub fn accepted(random: &mut Random, edition: u32, kind: usize) -> Vec<u8> {
         21..=25 => queued(random, edition, zones),
         26..=31 => turned(random, edition, zones.max(3)),
         // Complete ones of any length, with much or little traffic before the start.
-        _ => {
+        32..=43 => {
             let (before, after) = match random.below(3) {
                 0 => (random.below(8), random.below(60)),
                 1 => (random.below(60), random.below(120)),
@@ -517,11 +774,25 @@ pub fn accepted(random: &mut Random, edition: u32, kind: usize) -> Vec<u8> {
             };
             let mut run = started(random, edition, zones, before, after);
             finish(random, &mut run);
-            let habits = Habits::draw(random, zones).tame();
+            let habits = habits(random, edition, zones);
             let records = run.records.len() + random.below(30);
             traffic(random, &mut run, &habits, records);
             run
         }
+        // Gates up to their limits, and on both sides of a mark.
+        44 => {
+            let mut run = brimful(random, edition, zones);
+            run.start(random.within(1, zones));
+            let habits = habits(random, edition, zones);
+            let records = run.records.len() + random.below(20);
+            traffic(random, &mut run, &habits, records);
+            finish(random, &mut run);
+            run
+        }
+        45 => emptied(random, edition, zones),
+        46 => above(random, edition, zones),
+        47 => around(random, edition, zones),
+        _ => busy_gates(random, edition),
     };
     bytes_of(&run)
 }
@@ -537,27 +808,62 @@ pub fn journal_of(random: &mut Random, edition: u32, kind: usize) -> Vec<u8> {
     }
 }
 
-/// The worked journals, those with line checks in both editions.
-fn worked() -> Vec<Vec<u8>> {
-    let mut worked = vec![CASE_A.to_vec(), bytes_of(&case_b())];
-    for journal in CHECKED {
-        worked.extend(EDITIONS.map(|edition| with_edition(edition, journal)));
-    }
-    worked
-}
+/// How many journals there are for crates/cases.
+pub const STORED: usize = 720;
 
-/// Gives a number of journals that depends on the seed alone, the worked ones first. The kinds
-/// take turns, and each time round every kind has the other edition.
+/// How many of them there were before gates.
+const BEFORE_GATES: usize = 400;
+
+/// Gives a number of journals that depends on the seed alone: those that there were before gates, of
+/// editions 1 and 2, and behind them those with edition 3.
 pub fn journals(seed: u64, number: usize) -> Vec<Vec<u8>> {
     let mut random = Random::new(seed);
-    let mut journals = worked();
-    for index in journals.len()..number {
-        let (round, kind) = (index / KINDS, index % KINDS);
-        let edition = EDITIONS[(round + kind) % EDITIONS.len()];
+    let mut journals = before_gates(&mut random);
+    journals.extend(worked_with_gates());
+    let turns = turns();
+    for index in 0..number.saturating_sub(journals.len()) {
+        let (edition, kind) = turns[index % turns.len()];
         journals.push(journal_of(&mut random, edition, kind));
     }
     journals.truncate(number);
     journals
+}
+
+/// The journals of editions 1 and 2, the worked ones first, those with line checks in both editions.
+/// The kinds take turns, and each time round every kind has the other edition.
+fn before_gates(random: &mut Random) -> Vec<Vec<u8>> {
+    let mut journals = vec![CASE_A.to_vec(), bytes_of(&case_b())];
+    for journal in CHECKED {
+        journals.extend([1, 2].map(|edition| with_edition(edition, journal)));
+    }
+    let shapes = DAMAGES..DAMAGES + PLAIN_SHAPES;
+    let kinds: Vec<usize> = (0..PLAIN_DAMAGES).chain(shapes).collect();
+    for index in journals.len()..BEFORE_GATES {
+        let (round, turn) = (index / kinds.len(), index % kinds.len());
+        let edition = 1 + (round + turn) as u32 % 2;
+        journals.push(journal_of(random, edition, kinds[turn]));
+    }
+    journals
+}
+
+/// The worked journals with gates, and the others in edition 3.
+fn worked_with_gates() -> Vec<Vec<u8>> {
+    let mut worked: Vec<Vec<u8>> = GATED.iter().map(|journal| journal.to_vec()).collect();
+    worked.extend(GATES_REFUSED.iter().map(|(journal, ..)| journal.to_vec()));
+    worked.push(with_edition(3, &CASE_A));
+    worked.push(with_edition(3, &bytes_of(&case_b())));
+    worked.extend(CHECKED.iter().map(|journal| with_edition(3, journal)));
+    worked
+}
+
+/// The editions and kinds that take turns behind these: every kind in edition 3, and the damage with
+/// gates in editions 1 and 2.
+fn turns() -> Vec<(u32, usize)> {
+    let mut turns: Vec<(u32, usize)> = (0..KINDS).map(|kind| (3, kind)).collect();
+    for edition in [1, 2] {
+        turns.extend((PLAIN_DAMAGES..DAMAGES).map(|kind| (edition, kind)));
+    }
+    turns
 }
 
 /// What stands out in a journal.
@@ -570,6 +876,11 @@ pub struct Traits {
     /// A hand-over of 0 cars was taken with marked bit 0, and with 1.
     pub took_unmarked_check: bool,
     pub took_marked_check: bool,
+    /// Cars went through a gate inside the recording, and outside.
+    pub gate_inside: bool,
+    pub gate_outside: bool,
+    /// The recorded total.
+    pub total: u64,
     pub edition: u32,
     pub zones: u32,
     pub records: usize,
@@ -600,6 +911,9 @@ pub fn traits(bytes: &[u8]) -> Traits {
         above_16: false,
         took_unmarked_check: false,
         took_marked_check: false,
+        gate_inside: false,
+        gate_outside: false,
+        total: 0,
         edition: 0,
         zones: 0,
         records: 0,
@@ -616,15 +930,20 @@ pub fn traits(bytes: &[u8]) -> Traits {
         .any(|zone| matches!(zone.mark, Mark::Provisional(_)));
 
     // A provisional mark turns firm where a receipt changes one into the other.
+    let mut gates = Vec::new();
     let (_, mut replay) = Run::open(run.edition, run.count, &run.opening[..run.size()]);
     for &word in &run.records {
         let before = replay.zones;
-        let call = journal::decode(word).expect("an accepted journal is well formed");
+        let call = journal::decode(run.edition, word).expect("an accepted journal is well formed");
         if let Some(marked) = taken_check(&replay, call) {
             traits.took_marked_check |= marked;
             traits.took_unmarked_check |= !marked;
         }
         replay.call(call);
+        if let Call::Gate { zone, .. } = call {
+            let index = zone as usize - 1;
+            gates.push((index, replay.zones[index].events));
+        }
         traits.turned_firm |= (0..run.size()).any(|zone| {
             matches!(before[zone].mark, Mark::Provisional(_)) && replay.zones[zone].is_firm()
         });
@@ -637,17 +956,25 @@ pub fn traits(bytes: &[u8]) -> Traits {
     let recorded =
         demand3::parse(run.edition, run.size(), &shown).expect("the line is a recording");
     traits.above_16 = recorded.lines.iter().flatten().any(|line| line.len() > 16);
+    for (index, count) in gates {
+        let inside = count <= recorded.events[index];
+        traits.gate_inside |= inside;
+        traits.gate_outside |= !inside;
+    }
+    traits.total = recorded.total();
     traits
 }
 
 #[cfg(test)]
 mod tests {
     use super::*;
+    use crate::edition::EDITIONS;
 
-    /// Each kind of damage meets the question it was made for; for 19, the call's own too.
+    /// Each kind of damage meets the question it was made for; for 19, the call's own too. Without
+    /// gates, those of gates meet 18.
     #[test]
     fn every_kind_of_damage_meets_its_question() {
-        let numbers: [(std::ops::RangeInclusive<usize>, u32, u32); 14] = [
+        let numbers: [(std::ops::RangeInclusive<usize>, u32, u32); 19] = [
             (0..=2, 15, 0),
             (3..=4, 16, 0),
             (5..=5, 15, 0),
@@ -662,12 +989,22 @@ mod tests {
             (30..=31, 19, 10),
             (32..=32, 19, 5),
             (33..=33, 18, 0),
+            (37..=37, 18, 0),
+            (38..=38, 19, 5),
+            (39..=39, 19, 21),
+            (40..=40, 19, 7),
+            (41..=41, 18, 0),
         ];
         let mut random = Random::new(10);
         for (kinds, number, call_number) in numbers {
             for kind in kinds {
                 for turn in 0..40 {
-                    let bytes = damaged(&mut random, EDITIONS[turn % 2], kind);
+                    let edition = EDITIONS[turn % EDITIONS.len()];
+                    let number = match kind {
+                        PLAIN_DAMAGES.. if !has_gates(edition) => 18,
+                        _ => number,
+                    };
+                    let bytes = damaged(&mut random, edition, kind);
                     let reading = journal::read(&bytes);
                     assert_eq!(reading.refusal, number, "kind {kind}");
                     if number == 19 {
@@ -682,10 +1019,11 @@ mod tests {
     fn refused_call(bytes: &[u8], position: usize) -> u32 {
         let zones = zones_of(bytes) as usize;
         let words = journal::words_of(&bytes[2..]);
-        let (_, mut run) = Run::open(edition_of(bytes), zones as u32, &words[..zones]);
+        let edition = edition_of(bytes);
+        let (_, mut run) = Run::open(edition, zones as u32, &words[..zones]);
         for &word in &words[zones..zones + position] {
-            assert_eq!(run.call(journal::decode(word).unwrap()), 0);
+            assert_eq!(run.call(journal::decode(edition, word).unwrap()), 0);
         }
-        run.call(journal::decode(words[zones + position]).unwrap())
+        run.call(journal::decode(edition, words[zones + position]).unwrap())
     }
 }

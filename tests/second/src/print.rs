@@ -18,7 +18,7 @@ pub fn line(bytes: &[u8]) -> String {
         return format!("refused {}\n", reading.refusal);
     }
     let mut lent = [0; MOST_BYTES];
-    let (refusal, written) = recording::write(&reading.run, &mut lent);
+    let (refusal, written, _) = recording::write(&reading.run, &mut lent);
     if refusal != 0 {
         return format!("refused {refusal}\n");
     }

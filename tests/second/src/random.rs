@@ -1,7 +1,7 @@
 //! A small random number generator and lists of calls drawn with it.
 
-use crate::edition::{fewest, EDITIONS};
-use crate::site::{is_request, Call, Run};
+use crate::edition::{fewest, has_gates, EDITIONS};
+use crate::site::{is_request, Call, Direction, Run, DIRECTIONS};
 
 /// The xorshift generator of 64 bits, with a multiplied answer.
 pub struct Random(u64);
@@ -82,6 +82,11 @@ pub fn cars(random: &mut Random) -> u8 {
     }
 }
 
+/// A direction of a gate call.
+pub fn direction(random: &mut Random) -> Direction {
+    DIRECTIONS[random.below(DIRECTIONS.len())]
+}
+
 /// A call with any arguments, wrong ones included.
 fn any_call(random: &mut Random) -> Call {
     let mut zone = || match random.below(8) {
@@ -89,14 +94,16 @@ fn any_call(random: &mut Random) -> Call {
         _ => random.within(0, 9),
     };
     let (from, to) = (zone(), zone());
-    match random.below(3) {
-        0 => Call::HandOver {
-            from,
-            to,
-            cars: random.within(0, 255) as u8,
-        },
+    let cars = random.within(0, 255) as u8;
+    match random.below(4) {
+        0 => Call::HandOver { from, to, cars },
         1 => Call::Receipt { from, to },
-        _ => Call::Start { zone: from },
+        2 => Call::Start { zone: from },
+        _ => Call::Gate {
+            direction: direction(random),
+            zone: from,
+            cars,
+        },
     }
 }
 
@@ -110,7 +117,8 @@ fn receipts(random: &mut Random) -> u32 {
     }
 }
 
-/// The habits of one list: which lines are busy and how often each is received.
+/// The habits of one list: which lines are busy and how often each is received, and how often cars
+/// go through the gates.
 pub struct Habits {
     zones: u32,
     /// Sender, receiver, the chance of a hand-over and the chance of a receipt.
@@ -119,6 +127,8 @@ pub struct Habits {
     starts: u32,
     /// How many calls in 100 have any arguments.
     wild: u32,
+    /// How many of the other calls in 100 are gate calls.
+    gates: u32,
 }
 
 impl Habits {
@@ -145,6 +155,7 @@ impl Habits {
                 _ => random.within(2, 20),
             },
             wild: random.within(0, 8),
+            gates: 0,
         }
     }
 
@@ -158,6 +169,24 @@ impl Habits {
         self
     }
 
+    /// The same with so many gate calls in 100; drawn habits have none.
+    pub fn gates(mut self, gates: u32) -> Habits {
+        self.gates = gates;
+        self
+    }
+
+    /// The same with gate calls as an edition has them: in some lists many, and without gates none.
+    pub fn gates_of(self, random: &mut Random, edition: u32) -> Habits {
+        if !has_gates(edition) {
+            return self;
+        }
+        let gates = match random.below(4) {
+            0 => random.within(30, 70),
+            _ => random.within(2, 20),
+        };
+        self.gates(gates)
+    }
+
     /// The next call, drawn without a look at the run.
     pub fn call(&self, random: &mut Random) -> Call {
         if random.chance(self.wild) {
@@ -166,6 +195,13 @@ impl Habits {
         if random.within(1, 1_000) <= self.starts {
             return Call::Start {
                 zone: random.within(1, self.zones),
+            };
+        }
+        if self.gates != 0 && random.chance(self.gates) {
+            return Call::Gate {
+                direction: direction(random),
+                zone: random.within(1, self.zones),
+                cars: cars(random),
             };
         }
         loop {
@@ -213,7 +249,7 @@ fn chain(random: &mut Random, edition: u32, habits: &mut Habits) -> Vec<Call> {
 }
 
 /// Makes a random list of calls on an engine and gives them with their numbers. Some lists begin
-/// with a chain. Most end with rounds of receipts on every line, so that many recordings become
+/// with a chain. In edition 3 all have gate calls, in the others some, which are refused. Most end with rounds of receipts on every line, so that many recordings become
 /// complete.
 pub fn drive(
     random: &mut Random,
@@ -222,7 +258,11 @@ pub fn drive(
     length: usize,
     engine: &mut dyn FnMut(Call) -> u32,
 ) -> Vec<(Call, u32)> {
-    let mut habits = Habits::draw(random, zones);
+    let mut habits = Habits::draw(random, zones).gates_of(random, edition);
+    if !has_gates(edition) && random.chance(30) {
+        // Some gate calls are tried all the same, and refused.
+        habits = habits.gates(2);
+    }
     let mut calls = Vec::new();
     if random.chance(30) {
         for call in chain(random, edition, &mut habits) {

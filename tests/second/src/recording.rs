@@ -1,4 +1,4 @@
-//! The recording of a run, as bytes.
+//! The recording of a run, as bytes, and its total.
 
 use crate::edition::is_traffic;
 use crate::journal;
@@ -13,16 +13,16 @@ struct Sent {
     received_inside: bool,
 }
 
-/// Writes the recording and gives the refusal and the number of bytes written.
-pub fn write(run: &Run, lent: &mut [u8]) -> (u32, usize) {
+/// Writes the recording and gives the refusal, the number of bytes written and the recorded total.
+pub fn write(run: &Run, lent: &mut [u8]) -> (u32, usize, u32) {
     if !run.true_run() {
-        return (1, 0);
+        return (1, 0, 0);
     }
     if !run.started() {
-        return (12, 0);
+        return (12, 0, 0);
     }
     if run.holds_request() {
-        return (13, 0);
+        return (13, 0, 0);
     }
     let lines = recorded_lines(run);
     let mut items = Vec::new();
@@ -39,7 +39,22 @@ pub fn write(run: &Run, lent: &mut [u8]) -> (u32, usize) {
         words.push(stock as u16);
     }
     words.extend(items);
-    journal::lend(&journal::bytes_of(&words), lent)
+    match journal::lend(&journal::bytes_of(&words), lent) {
+        (0, written) => (0, written, total(run, &lines)),
+        (refusal, _) => (refusal, 0, 0),
+    }
+}
+
+/// The recorded total: the stocks that are shown and the cars on the lines that are shown. It "may
+/// exceed 65,535", for the zones are shown as of different moments.
+fn total(run: &Run, lines: &[[Vec<u8>; 8]; 8]) -> u32 {
+    let stocks = (0..run.size()).map(|index| shown(run, index).2);
+    let cars = lines
+        .iter()
+        .flatten()
+        .flatten()
+        .map(|&cars| u32::from(cars));
+    stocks.sum::<u32>() + cars.sum::<u32>()
 }
 
 /// What the recording shows of a zone: whether it is firm, its events and its stock.
@@ -59,7 +74,8 @@ fn recorded_lines(run: &Run) -> [[Vec<u8>; 8]; 8] {
     // The next own event of a zone is inside when its count is at most the events shown.
     let inside = |replay: &Run, index: usize| replay.zones[index].events < shown(run, index).1;
     for &word in &run.records {
-        let call = journal::decode(word).expect("the journal of a true run is well formed");
+        let call =
+            journal::decode(run.edition, word).expect("the journal of a true run is well formed");
         match call {
             Call::HandOver { from, to, cars } if is_traffic(run.edition, cars) => {
                 let (a, b) = (from as usize - 1, to as usize - 1);

@@ -1,6 +1,6 @@
 //! One zone: the bare rules of its steps, and the zone part that asks its questions first.
 
-use crate::edition::{is_known, is_traffic};
+use crate::edition::{has_gates, is_known, is_traffic};
 
 /// The stock and the number of own events that a mark keeps.
 #[derive(Clone, Copy, Debug, PartialEq, Eq)]
@@ -101,6 +101,19 @@ impl Body {
             }
         }
         self.stock += u32::from(cars);
+        self.events += 1;
+    }
+
+    /// Cars drive in from the street: an own event, "also with 0 cars". The heard set and the mark
+    /// stay, and no request is sent.
+    pub fn enter(&mut self, cars: u8) {
+        self.stock += u32::from(cars);
+        self.events += 1;
+    }
+
+    /// Cars drive out to the street, with the same effect but on the stock.
+    pub fn leave(&mut self, cars: u8) {
+        self.stock -= u32::from(cars);
         self.events += 1;
     }
 
@@ -225,6 +238,45 @@ impl Zone {
         }
         self.body.take(self.edition, sender, cars, marked);
         (self, accepted(NO_REQUESTS, false))
+    }
+
+    /// An entry at this zone's gate. No zone is named, so 5 is not asked.
+    pub fn enter(mut self, cars: u8) -> (Zone, Answer) {
+        let refusal = self.at_gate();
+        if refusal != 0 {
+            return (self, refused(refusal));
+        }
+        if self.body.stock + u32::from(cars) > 65_535 {
+            return (self, refused(20));
+        }
+        self.body.enter(cars);
+        (self, accepted(NO_REQUESTS, false))
+    }
+
+    /// An exit at this zone's gate.
+    pub fn leave(mut self, cars: u8) -> (Zone, Answer) {
+        let refusal = self.at_gate();
+        if refusal != 0 {
+            return (self, refused(refusal));
+        }
+        if self.body.stock < u32::from(cars) {
+            return (self, refused(7));
+        }
+        self.body.leave(cars);
+        (self, accepted(NO_REQUESTS, false))
+    }
+
+    /// The questions that both gate steps ask first: 1, 15 and 6.
+    fn at_gate(&self) -> u32 {
+        if !self.sound() {
+            1
+        } else if !has_gates(self.edition) {
+            15
+        } else if self.body.events >= 1_000 {
+            6
+        } else {
+            0
+        }
     }
 
     pub fn take_request(mut self, set: u8) -> (Zone, Answer) {

@@ -2,18 +2,26 @@
 
 use second::demand3;
 use second::edition::EDITIONS;
-use second::generate::{bytes_of, case_b, with_edition, CASE_A, CHECKED};
+use second::generate::{bytes_of, case_b, with_edition, CASE_A, CHECKED, GATED, GATES_REFUSED};
 use second::journal;
 use second::print;
 use second::recording;
-use second::site::{Call, Item, Run};
+use second::site::{Call, Direction, Item, Run};
 use second::zone::{Mark, Saved};
 
 /// The recording of a run, lent more than enough bytes.
 fn record(run: &Run) -> (u32, Vec<u8>) {
     let mut lent = [0; print::MOST_BYTES];
-    let (refusal, written) = recording::write(run, &mut lent);
+    let (refusal, written, _) = recording::write(run, &mut lent);
     (refusal, lent[..written].to_vec())
+}
+
+/// The recorded total of a run whose recording is complete.
+fn total(run: &Run) -> u32 {
+    let mut lent = [0; print::MOST_BYTES];
+    let (refusal, _, total) = recording::write(run, &mut lent);
+    assert_eq!(refusal, 0);
+    total
 }
 
 #[test]
@@ -22,12 +30,25 @@ fn case_a_prints_its_line() {
     assert_eq!(print::line(&CASE_A), line);
 }
 
-/// Neither case has a hand-over of 0 cars, so in edition 2 the header alone is another.
+/// Neither case has a hand-over of 0 cars, so in later editions the header alone is another.
 #[test]
-fn cases_a_and_b_are_the_same_in_edition_2_but_for_the_header() {
+fn cases_a_and_b_are_the_same_in_later_editions_but_for_the_header() {
     for journal in [CASE_A.to_vec(), bytes_of(&case_b())] {
-        let line = print::line(&journal).replacen("28", "48", 1);
-        assert_eq!(print::line(&with_edition(2, &journal)), line);
+        for (edition, first) in [(2, "48"), (3, "68")] {
+            let line = print::line(&journal).replacen("28", first, 1);
+            assert_eq!(print::line(&with_edition(edition, &journal)), line);
+        }
+    }
+}
+
+/// The recording call answers the total in every edition.
+#[test]
+fn the_totals_of_cases_a_and_b() {
+    for (journal, cars) in [(CASE_A.to_vec(), 60), (bytes_of(&case_b()), 30)] {
+        for edition in EDITIONS {
+            let reading = journal::read(&with_edition(edition, &journal));
+            assert_eq!(total(&reading.run), cars);
+        }
     }
 }
 
@@ -97,7 +118,7 @@ fn openings_of_1_2_8_and_9_zones() {
 /// Question 15 comes before 2, 3 and 4, and what is handed back has edition 1.
 #[test]
 fn openings_of_every_edition() {
-    for (edition, refusal) in [(0, 15), (1, 0), (2, 0), (3, 15), (7, 15), (255, 15)] {
+    for (edition, refusal) in [(0, 15), (1, 0), (2, 0), (3, 0), (4, 15), (7, 15), (255, 15)] {
         for (count, stocks) in [(2, &[3, 4][..]), (2, &[65_535; 2]), (2, &[1]), (9, &[1])] {
             let (answer, run) = Run::open(edition, count, stocks);
             if refusal != 0 {
@@ -130,7 +151,7 @@ fn stock_sums_65_535_and_65_536() {
 #[test]
 fn the_16th_and_17th_item_on_a_line() {
     // A line check takes a place as any hand-over does.
-    for (edition, cars) in [(1, 1), (2, 1), (1, 0), (2, 0)] {
+    for (edition, cars) in [(1, 1), (2, 1), (3, 1), (1, 0), (2, 0), (3, 0)] {
         let (_, mut run) = Run::open(edition, 2, &[84 + 16 * u16::from(cars), 0]);
         for _ in 0..16 {
             assert_eq!(run.hand_over(1, 2, cars), 0);
@@ -149,7 +170,7 @@ fn the_16th_and_17th_item_on_a_line() {
 #[test]
 fn record_1_000_and_the_next() {
     // 500 line checks and their receipts use the records up, and are no own events.
-    for (edition, events) in [(1, 500), (2, 0)] {
+    for (edition, events) in [(1, 500), (2, 0), (3, 0)] {
         let (_, mut run) = Run::open(edition, 2, &[1, 0]);
         for _ in 0..500 {
             assert_eq!(run.hand_over(1, 2, 0), 0);
@@ -169,6 +190,10 @@ fn full_at_1_000_records(mut run: Run) {
     assert_eq!(run.start(1), 6);
     assert_eq!(run.hand_over(1, 3, 1), 5);
     assert_eq!(run.start(3), 5);
+    // For gates, 15 comes before 5, and 6 before 7.
+    let refused = if run.edition == 3 { [5, 6] } else { [15, 15] };
+    assert_eq!([run.enter(3, 0), run.enter(1, 0)], refused);
+    assert_eq!([run.leave(3, 0), run.leave(1, 255)], refused);
     assert!(run.same(&before));
     let mut lent = [0; 2_006];
     assert_eq!(journal::write(&run, &mut lent), (0, 2_006));
@@ -181,7 +206,7 @@ fn full_at_1_000_records(mut run: Run) {
 #[test]
 fn a_start_as_record_1_000_is_recorded() {
     // Zone 1 is firm; all traffic that it sent stands on the line.
-    for (edition, events) in [(1, 500), (2, 1)] {
+    for (edition, events) in [(1, 500), (2, 1), (3, 1)] {
         let (_, mut run) = Run::open(edition, 2, &[1, 0]);
         for _ in 0..499 {
             run.hand_over(1, 2, 0);
@@ -203,7 +228,7 @@ fn a_start_as_record_1_000_is_recorded() {
 
 #[test]
 fn a_start_that_sends_no_request_is_complete() {
-    for (edition, first) in [(1, 0x24), (2, 0x44)] {
+    for (edition, first) in [(1, 0x24), (2, 0x44), (3, 0x64)] {
         let (_, mut run) = Run::open(edition, 2, &[3, 4]);
         assert_eq!(run.start(2), 0);
         assert!(!run.holds_request());
@@ -225,7 +250,7 @@ fn two_checks(edition: u32) -> Run {
 
 #[test]
 fn a_check_is_sent_with_its_marked_bit_and_counts_in_edition_1_alone() {
-    for (edition, events) in [(1, 1), (2, 0)] {
+    for (edition, events) in [(1, 1), (2, 0), (3, 0)] {
         let run = two_checks(edition);
         for (from, marked) in [(1, true), (3, false)] {
             let item = Item::HandOver { cars: 0, marked };
@@ -238,12 +263,14 @@ fn a_check_is_sent_with_its_marked_bit_and_counts_in_edition_1_alone() {
 
 #[test]
 fn a_check_that_is_taken_is_heard_and_marks_in_edition_1_alone() {
-    let before = two_checks(2);
     for (from, marked) in [(1, true), (3, false)] {
-        let mut run = before.clone();
-        assert_eq!(run.receipt(from, 2), 0);
-        assert_eq!(run.zones, before.zones, "in edition 2 no zone changes");
-        assert_eq!(run.records.len(), before.records.len() + 1);
+        for edition in [2, 3] {
+            let before = two_checks(edition);
+            let mut run = before.clone();
+            assert_eq!(run.receipt(from, 2), 0);
+            assert_eq!(run.zones, before.zones, "from edition 2 on no zone changes");
+            assert_eq!(run.records.len(), before.records.len() + 1);
+        }
 
         let mut run = two_checks(1);
         let (heard, saved) = (run.zones[1].heard, now(&run, 1));
@@ -268,8 +295,8 @@ fn now(run: &Run, index: usize) -> Saved {
 }
 
 #[test]
-fn a_check_on_its_line_or_taken_later_is_not_shown_in_edition_2() {
-    for (edition, items) in [(1, 2), (2, 1)] {
+fn a_check_on_its_line_or_taken_later_is_shown_in_edition_1_alone() {
+    for (edition, items) in [(1, 2), (2, 1), (3, 1)] {
         let (_, mut run) = Run::open(edition, 2, &[10, 20]);
         run.hand_over(1, 2, 0);
         run.hand_over(1, 2, 7);
@@ -287,13 +314,22 @@ fn a_check_on_its_line_or_taken_later_is_not_shown_in_edition_2() {
 #[test]
 fn the_worked_journals_with_line_checks() {
     let lines = [
-        ["refused 13", "44 00 00 00 00 05 80 00 00 07"],
+        [
+            "refused 13",
+            "44 00 00 00 00 05 80 00 00 07",
+            "64 00 00 00 00 05 80 00 00 07",
+        ],
         [
             "24 01 80 01 00 05 00 00 00 07 01 00",
             "44 00 80 00 00 05 00 00 00 07",
+            "64 00 80 00 00 05 00 00 00 07",
         ],
-        ["refused 19", "48 00 80 01 00 0E 80 02 00 15 80 01 00 19"],
-        ["refused 19", "refused 19"],
+        [
+            "refused 19",
+            "48 00 80 01 00 0E 80 02 00 15 80 01 00 19",
+            "68 00 80 01 00 0E 80 02 00 15 80 01 00 19",
+        ],
+        ["refused 19"; 3],
     ];
     for (journal, lines) in CHECKED.iter().zip(lines) {
         for (edition, line) in EDITIONS.iter().zip(lines) {
@@ -310,8 +346,154 @@ fn the_worked_journals_with_line_checks() {
     assert_eq!(position(1, CHECKED[2]), 8);
     assert_eq!(
         EDITIONS.map(|edition| position(edition, CHECKED[3])),
-        [16, 16]
+        [16; 3]
     );
+}
+
+#[test]
+fn the_worked_journals_with_gates() {
+    let lines = [
+        ("64 00 00 00 FF FF 80 01 00 FF", 65_790),
+        ("68 00 80 03 00 08 80 02 00 0F 00 00 00 1E", 53),
+        ("64 00 80 02 00 05 00 00 00 07", 12),
+    ];
+    for (journal, (line, cars)) in GATED.iter().zip(lines) {
+        assert_eq!(print::line(journal), format!("{line}\n"));
+        let reading = journal::read(journal);
+        assert_eq!((reading.refusal, total(&reading.run)), (0, cars));
+        // Without gates the first of these records is refused.
+        for edition in [1, 2] {
+            let reading = journal::read(&with_edition(edition, journal));
+            assert_eq!((reading.refusal, reading.position), (18, 0));
+        }
+    }
+    for (journal, refusal, position) in GATES_REFUSED {
+        let reading = journal::read(journal);
+        assert_eq!((reading.refusal, reading.position), (refusal, position));
+        assert!(reading.run == Run::refused());
+        assert_eq!(print::line(journal), format!("refused {refusal}\n"));
+    }
+    // Each direction but 0 and 1, with a zone of the site, with a wrong one and in every edition.
+    for edition in EDITIONS {
+        for direction in 2..8 {
+            for zone in 0..8 {
+                let journal = [4, 1, 0, 5, 0, 7, 0xC0 | zone << 3 | direction, 0];
+                let reading = journal::read(&with_edition(edition, &journal));
+                assert_eq!((reading.refusal, reading.position), (18, 0));
+            }
+        }
+    }
+}
+
+/// The first of these journals, from calls: the total may be above 65,535, though no moment had so
+/// many cars.
+#[test]
+fn a_total_above_65_535_comes_from_calls_too() {
+    let (_, mut run) = Run::open(3, 2, &[65_535, 0]);
+    assert_eq!(run.enter(2, 1), 21);
+    assert_eq!(run.leave(1, 255), 0);
+    assert_eq!(run.enter(2, 255), 0);
+    assert_eq!((run.enter(2, 1), run.enter(2, 0)), (21, 0));
+    assert_eq!(run.start(2), 0);
+    assert_eq!(total(&run), 65_790);
+    // Zone 1 lets all of its cars out, and zone 2 as many in: 17 bits.
+    let (_, mut run) = Run::open(3, 2, &[65_535, 0]);
+    for _ in 0..257 {
+        assert_eq!((run.leave(1, 255), run.enter(2, 255)), (0, 0));
+    }
+    assert_eq!((run.leave(1, 1), run.enter(2, 1)), (7, 21));
+    assert_eq!(run.start(2), 0);
+    assert_eq!(total(&run), 2 * 65_535);
+}
+
+/// Each gate call is an own event, also with 0 cars, and nothing else changes but the stock.
+#[test]
+fn gates_change_the_stock_and_are_counted() {
+    for marked in [false, true] {
+        for cars in [0, 1, 10] {
+            for direction in [Direction::In, Direction::Out] {
+                let mut run = two_checks(3);
+                let zone = if marked { 1 } else { 3 };
+                let before = run.clone();
+                let call = Call::Gate {
+                    direction,
+                    zone,
+                    cars,
+                };
+                assert_eq!(run.call(call), 0);
+                let mut expected = before.clone();
+                let body = &mut expected.zones[zone as usize - 1];
+                body.events += 1;
+                match direction {
+                    Direction::In => body.stock += u32::from(cars),
+                    Direction::Out => body.stock -= u32::from(cars),
+                }
+                expected.records.push(journal::encode(call));
+                assert!(run == expected);
+                assert!(run.true_run());
+            }
+        }
+    }
+}
+
+/// Entries up to 65,535 with the cars on lines, and one more; exits of the stock, and one more.
+#[test]
+fn gates_up_to_their_limits() {
+    for (on_line, room) in [(0, 255), (1, 254), (100, 155), (255, 0)] {
+        let (_, mut run) = Run::open(3, 2, &[65_535 - room, 0]);
+        assert_eq!(run.hand_over(1, 2, on_line), 0);
+        let before = run.clone();
+        if room < 255 {
+            assert_eq!(run.enter(2, room as u8 + 1), 21);
+            assert_eq!(run.enter(1, 255), 21);
+            assert!(run == before);
+        }
+        assert_eq!(run.enter(2, room as u8), 0);
+        assert_eq!(run.zones[1].stock, u32::from(room));
+        assert_eq!((run.enter(1, 1), run.enter(2, 1)), (21, 21));
+        assert_eq!((run.enter(1, 0), run.enter(2, 0)), (0, 0));
+        // The cars that arrive make no room; those that drive out do.
+        assert_eq!((run.receipt(1, 2), run.enter(1, 1)), (0, 21));
+        assert_eq!((run.leave(1, 3), run.enter(2, 3)), (0, 0));
+        assert_eq!(run.enter(2, 1), 21);
+        assert!(run.sound());
+    }
+    for stock in [0, 1, 100, 254] {
+        let (_, mut run) = Run::open(3, 2, &[stock, 255]);
+        let cars = stock as u8;
+        assert_eq!(run.leave(1, cars + 1), 7);
+        assert_eq!((run.leave(1, cars), run.zones[0].stock), (0, 0));
+        assert_eq!((run.leave(1, 1), run.leave(1, 0)), (7, 0));
+        assert_eq!((run.leave(2, 255), run.leave(2, 255)), (0, 7));
+    }
+}
+
+/// Gates before a mark are inside the recording, and after it outside; a zone that is not recorded
+/// is shown as it opened, whatever went through its gate.
+#[test]
+fn gates_before_and_after_a_mark() {
+    let (_, mut run) = Run::open(3, 3, &[10, 20, 30]);
+    assert_eq!(
+        (run.enter(1, 5), run.leave(2, 7), run.enter(3, 9)),
+        (0, 0, 0)
+    );
+    assert_eq!((run.hand_over(2, 1, 1), run.receipt(2, 1)), (0, 0));
+    assert_eq!(run.start(1), 0);
+    // Zone 1 is marked, zone 2 not yet.
+    assert_eq!((run.enter(1, 50), run.enter(2, 60)), (0, 0));
+    assert_eq!(record(&run), (13, vec![]));
+    assert_eq!(run.receipt(1, 2), 0);
+    assert_eq!(
+        (run.leave(1, 4), run.leave(2, 4), run.leave(3, 4)),
+        (0, 0, 0)
+    );
+    let (refusal, bytes) = record(&run);
+    assert_eq!(refusal, 0);
+    let recorded = demand3::parse(3, 3, &bytes).unwrap();
+    assert_eq!(recorded.firm, [true, true, false]);
+    assert_eq!(recorded.events, [2, 3, 0]);
+    assert_eq!(recorded.stocks, [16, 72, 30]);
+    assert_eq!(total(&run), 60 + 5 - 7 + 60);
 }
 
 #[test]
@@ -339,19 +521,35 @@ fn record_words() {
     ];
     for (word, call) in calls {
         assert_eq!(journal::encode(call), word);
-        assert_eq!(journal::decode(word), Some(call));
+        for edition in EDITIONS {
+            assert_eq!(journal::decode(edition, word), Some(call));
+        }
+    }
+    // The zone of a gate record is less one as ever, the direction is not.
+    for (word, direction) in [(0xD803, Direction::In), (0xD903, Direction::Out)] {
+        let call = Call::Gate {
+            direction,
+            zone: 4,
+            cars: 3,
+        };
+        assert_eq!(journal::encode(call), word);
+        let decoded = EDITIONS.map(|edition| journal::decode(edition, word));
+        assert_eq!(decoded, [None, None, Some(call)]);
     }
     // A well formed word is the word of its call, and the others are those of question 18.
-    for word in 0..=u16::MAX {
-        let well_formed = match word >> 14 {
-            0 => true,
-            1 => word & 0x00FF == 0,
-            2 => word & 0x07FF == 0,
-            _ => false,
-        };
-        assert_eq!(journal::decode(word).is_some(), well_formed);
-        if let Some(call) = journal::decode(word) {
-            assert_eq!(journal::encode(call), word);
+    for edition in EDITIONS {
+        for word in 0..=u16::MAX {
+            let well_formed = match word >> 14 {
+                0 => true,
+                1 => word & 0x00FF == 0,
+                2 => word & 0x07FF == 0,
+                _ => edition == 3 && word & 0x0600 == 0,
+            };
+            let call = journal::decode(edition, word);
+            assert_eq!(call.is_some(), well_formed);
+            if let Some(call) = call {
+                assert_eq!(journal::encode(call), word);
+            }
         }
     }
 }

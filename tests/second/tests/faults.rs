@@ -1,12 +1,14 @@
 //! The faults that a fitter would commit, each switched on in a small engine of this file.
 //!
-//! The checker of demand 3 has to find every one of them, and the engine without a fault has to
-//! agree with the site engine.
+//! The checker of demand 3 has to find every one of them that it can see; the others show in the
+//! numbers of the calls or in the journal. The engine without a fault has to agree with the site engine.
 
 use second::demand3::{check, compare, look, Account, Event, Finding, Lines, Seen};
 use second::edition::EDITIONS;
+use second::generate::bytes_of;
+use second::journal;
 use second::random::{drive, stocks, Random};
-use second::site::{Call, Run};
+use second::site::{Call, Direction, Run};
 use std::collections::{BTreeMap, VecDeque};
 
 #[derive(Clone, Copy, Debug, PartialEq, Eq)]
@@ -40,6 +42,32 @@ enum Fault {
     CheckShown,
     /// The recording's header has edition 1 whatever the run's is.
     HeaderOfEdition1,
+    /// An exit beyond the stock is accepted and leaves the zone empty.
+    UncoveredExit,
+    /// A gate call of 0 cars is no own event, as a line check is none.
+    EmptyGateUncounted,
+    /// The total is that of the opening less the exits inside.
+    EntriesNotInTotal,
+    /// The total is that of the opening, as it was before gates.
+    OpeningTotal,
+    /// The total is that of the present stocks and lines.
+    PresentTotal,
+    /// 21 asks the stocks alone.
+    BlindToLines,
+    /// 21 asks the one zone's stock, as 20 does in the zone part.
+    BlindToOthers,
+    /// 21 refuses an entry up to 65,535.
+    RefusesTheLast,
+    /// 21 lets one car more in.
+    OneMoreIn,
+    /// 7 refuses an exit of just the stock.
+    RefusesToEmpty,
+    /// The record of a gate call has the other direction.
+    SwappedInRecord,
+    /// A gate call of an unmarked zone gives it a provisional mark, where a recording was started.
+    GateMarks,
+    /// Gates are open in edition 2 too.
+    GatesInEdition2,
 }
 
 /// A mark keeps whether it is firm, the stock and the number of own events.
@@ -70,7 +98,7 @@ struct Fitter {
     mark: Vec<Mark>,
     lines: Vec<Vec<VecDeque<Item>>>,
     sent: Vec<Vec<Vec<Sent>>>,
-    records: usize,
+    records: Vec<u16>,
     /// What this engine did itself, for the reading of demand 3 that trusts it.
     own: Account,
 }
@@ -88,7 +116,7 @@ impl Fitter {
             mark: vec![None; zones],
             lines: vec![vec![VecDeque::new(); zones]; zones],
             sent: vec![vec![Vec::new(); zones]; zones],
-            records: 0,
+            records: Vec::new(),
             own: Account {
                 events: Vec::new(),
                 starter: None,
@@ -110,24 +138,122 @@ impl Fitter {
     /// Makes a call and gives its number.
     fn call(&mut self, call: Call) -> u32 {
         let (from, to) = match call {
-            Call::HandOver { from, to, .. } | Call::Receipt { from, to } => (from, to),
-            Call::Start { zone } => (zone, 0),
+            Call::HandOver { from, to, .. } | Call::Receipt { from, to } => (from, Some(to)),
+            Call::Start { zone } => (zone, None),
+            Call::Gate { zone, .. } => (zone, None),
         };
-        let start = matches!(call, Call::Start { .. });
-        if !self.on_site(from) || !start && (!self.on_site(to) || from == to) {
+        if matches!(call, Call::Gate { .. }) && !self.has_gates() {
+            return 15;
+        }
+        let right = |to: u32| self.on_site(to) && from != to;
+        if !self.on_site(from) || !to.is_none_or(right) {
             return 5;
         }
-        if self.records == 1_000 {
+        if self.records.len() == 1_000 {
             return 6;
         }
         let a = from as usize - 1;
+        let b = to.map_or(a, |to| to as usize - 1);
         let number = match call {
-            Call::HandOver { cars, .. } => self.hand_over(a, to as usize - 1, cars),
-            Call::Receipt { .. } => self.receipt(a, to as usize - 1),
+            Call::HandOver { cars, .. } => self.hand_over(a, b, cars),
+            Call::Receipt { .. } => self.receipt(a, b),
             Call::Start { .. } => self.start(a),
+            Call::Gate {
+                direction, cars, ..
+            } => self.gate(direction, a, cars),
         };
-        self.records += usize::from(number == 0);
+        if number == 0 {
+            self.record(call, a, b);
+        }
         number
+    }
+
+    /// Adds the record of an accepted call.
+    fn record(&mut self, call: Call, a: usize, b: usize) {
+        let (kind, second, cars) = match call {
+            Call::HandOver { cars, .. } => (0, b, cars),
+            Call::Receipt { .. } => (1, b, 0),
+            Call::Start { .. } => (2, 0, 0),
+            Call::Gate {
+                direction, cars, ..
+            } => {
+                let swapped = self.fault == Fault::SwappedInRecord;
+                (
+                    3,
+                    usize::from(swapped != (direction == Direction::Out)),
+                    cars,
+                )
+            }
+        };
+        let word = kind << 14 | a << 11 | second << 8 | usize::from(cars);
+        self.records.push(word as u16);
+    }
+
+    /// The bytes of this engine's journal.
+    fn journal(&self) -> Vec<u8> {
+        let header = (self.edition as usize) << 13 | (self.zones() - 1) << 10 | self.records.len();
+        let mut words = vec![header as u16];
+        words.extend(&self.opening);
+        words.extend(&self.records);
+        words.iter().flat_map(|word| word.to_be_bytes()).collect()
+    }
+
+    fn has_gates(&self) -> bool {
+        self.edition == 3 || self.fault == Fault::GatesInEdition2 && self.edition == 2
+    }
+
+    fn gate(&mut self, direction: Direction, a: usize, cars: u8) -> u32 {
+        let (amount, before) = (u32::from(cars), self.stock[a]);
+        match direction {
+            Direction::In => {
+                let asked = match self.fault {
+                    Fault::BlindToLines => self.stock.iter().sum(),
+                    Fault::BlindToOthers => self.stock[a],
+                    _ => self.present_total(),
+                };
+                let most = match self.fault {
+                    Fault::RefusesTheLast => 65_534,
+                    Fault::OneMoreIn => 65_536,
+                    _ => 65_535,
+                };
+                if asked + amount > most {
+                    return 21;
+                }
+                self.stock[a] += amount;
+            }
+            Direction::Out => {
+                let covered = match self.fault {
+                    Fault::UncoveredExit => true,
+                    Fault::RefusesToEmpty => amount < self.stock[a],
+                    _ => amount <= self.stock[a],
+                };
+                if !covered {
+                    return 7;
+                }
+                self.stock[a] = self.stock[a].saturating_sub(amount);
+            }
+        }
+        let started = self.own.starter.is_some();
+        if self.fault == Fault::GateMarks && started && self.mark[a].is_none() {
+            self.mark[a] = Some((false, before, self.events[a]));
+            self.own.marks[a] = Some(self.events[a]);
+        }
+        self.events[a] += u32::from(self.fault != Fault::EmptyGateUncounted || cars != 0);
+        let count = self.events[a];
+        self.own.events.push(Event::Gate {
+            direction,
+            zone: a,
+            cars,
+            count,
+        });
+        0
+    }
+
+    /// The present stocks and cars on lines.
+    fn present_total(&self) -> u32 {
+        let on_lines = self.present(|_, _| true);
+        let cars = on_lines.iter().flatten().flatten();
+        self.stock.iter().sum::<u32>() + cars.map(|&cars| u32::from(cars)).sum::<u32>()
     }
 
     fn hand_over(&mut self, a: usize, b: usize, cars: u8) -> u32 {
@@ -158,7 +284,7 @@ impl Fitter {
     }
 
     fn is_check(&self, cars: u8) -> bool {
-        self.edition == 2 && cars == 0
+        self.edition > 1 && cars == 0
     }
 
     /// Says whether a hand-over is an own event.
@@ -291,6 +417,7 @@ impl Fitter {
             calls,
             answer: 0,
             bytes: Vec::new(),
+            total: 0,
             stocks: self.stock.iter().map(|&stock| u64::from(stock)).collect(),
             lines: self.present(|_, _| true),
         };
@@ -339,7 +466,38 @@ impl Fitter {
         }
         words.extend(items);
         seen.bytes = words.iter().flat_map(|word| word.to_be_bytes()).collect();
+        seen.total = match self.fault {
+            Fault::EntriesNotInTotal => self.opening_total() - self.exits(&shown),
+            Fault::OpeningTotal => self.opening_total(),
+            Fault::PresentTotal => self.present_total(),
+            _ => {
+                let cars = lines
+                    .iter()
+                    .flatten()
+                    .flatten()
+                    .map(|&cars| u32::from(cars));
+                shown.iter().map(|shown| shown.0).sum::<u32>() + cars.sum::<u32>()
+            }
+        };
         seen
+    }
+
+    fn opening_total(&self) -> u32 {
+        self.opening.iter().map(|&stock| u32::from(stock)).sum()
+    }
+
+    /// The cars of the exits inside, but no more of them than the opening had.
+    fn exits(&self, shown: &[(u32, u32)]) -> u32 {
+        let exits = self.own.events.iter().map(|event| match *event {
+            Event::Gate {
+                direction: Direction::Out,
+                zone,
+                cars,
+                count,
+            } if count <= shown[zone].1 => u32::from(cars),
+            _ => 0,
+        });
+        exits.sum::<u32>().min(self.opening_total())
     }
 
     /// The present hand-overs that a test of sender and count lets through, line checks too.
@@ -388,7 +546,7 @@ impl Fitter {
 }
 
 /// Drives an engine with a fault on random lists and hands over what is seen of each.
-fn each_run(fault: Fault, edition: u32, runs: usize, mut then: impl FnMut(Seen, &Account)) {
+fn each_run(fault: Fault, edition: u32, runs: usize, mut then: impl FnMut(Seen, &Fitter)) {
     let mut random = Random::new(9);
     for _ in 0..runs {
         let zones = random.within(2, 6);
@@ -398,7 +556,7 @@ fn each_run(fault: Fault, edition: u32, runs: usize, mut then: impl FnMut(Seen, 
             fitter.call(call)
         });
         let seen = fitter.look(calls);
-        then(seen, &fitter.own);
+        then(seen, &fitter);
     }
 }
 
@@ -417,7 +575,7 @@ fn findings(fault: Fault, edition: u32) -> BTreeMap<Finding, u32> {
     all
 }
 
-/// In both editions every one of the findings must turn up.
+/// In every edition each of the findings must turn up.
 fn must_find(fault: Fault, wanted: &[Finding]) {
     for edition in EDITIONS {
         must_find_in(edition, fault, wanted);
@@ -442,7 +600,7 @@ fn must_find_just(edition: u32, fault: Fault, wanted: &[Finding]) {
 fn without_a_fault_nothing_is_found_and_the_site_agrees() {
     for edition in EDITIONS {
         must_find_just(edition, Fault::None, &[]);
-        each_run(Fault::None, edition, 1_000, |seen, own| {
+        each_run(Fault::None, edition, 1_000, |seen, fitter| {
             let zones = seen.opening.len() as u32;
             let (_, mut run) = Run::open(edition, zones, &seen.opening);
             for &(call, number) in &seen.calls {
@@ -450,11 +608,13 @@ fn without_a_fault_nothing_is_found_and_the_site_agrees() {
             }
             let site = look(&seen.opening, seen.calls.clone(), &run);
             assert_eq!((site.answer, site.bytes), (seen.answer, seen.bytes.clone()));
+            assert_eq!(site.total, seen.total);
+            assert_eq!(bytes_of(&run), fitter.journal());
             assert_eq!(
                 (site.stocks, site.lines),
                 (seen.stocks.clone(), seen.lines.clone())
             );
-            assert_eq!(compare(&seen, own), []);
+            assert_eq!(compare(&seen, &fitter.own), []);
         });
     }
 }
@@ -498,8 +658,8 @@ fn passing_on_only_the_own_set_is_caught_by_the_rules() {
 #[test]
 fn passing_on_only_the_own_set_passes_an_account_that_trusts_the_run() {
     for edition in EDITIONS {
-        each_run(Fault::OwnSetOnly, edition, 2_000, |seen, own| {
-            assert_eq!(compare(&seen, own), []);
+        each_run(Fault::OwnSetOnly, edition, 2_000, |seen, fitter| {
+            assert_eq!(compare(&seen, &fitter.own), []);
         });
     }
 }
@@ -508,36 +668,163 @@ fn passing_on_only_the_own_set_passes_an_account_that_trusts_the_run() {
 fn present_lines_are_caught() {
     for fault in [Fault::PresentLines, Fault::PresentInsideLines] {
         for edition in EDITIONS {
-            must_find_just(edition, fault, &[Finding::RecordedLines]);
+            let wanted = [Finding::RecordedLines, Finding::Balance];
+            must_find_just(edition, fault, &wanted);
         }
     }
 }
 
-/// A fault with checks shows in its own edition, and is none in the other.
+/// A fault with checks shows in its own editions, and is none in the others.
 #[test]
 fn checks_that_are_counted_wrongly_are_caught() {
     let wanted = [Finding::InsideStep, Finding::Events];
-    for (fault, wrong, right) in [(Fault::CheckCounted, 2, 1), (Fault::CheckUncounted, 1, 2)] {
-        must_find_in(wrong, fault, &wanted);
-        must_find_just(right, fault, &[]);
+    for edition in [2, 3] {
+        must_find_in(edition, Fault::CheckCounted, &wanted);
+        must_find_just(edition, Fault::CheckUncounted, &[]);
     }
+    must_find_in(1, Fault::CheckUncounted, &wanted);
+    must_find_just(1, Fault::CheckCounted, &[]);
 }
 
 #[test]
 fn checks_that_are_heard_or_cause_a_mark_are_caught() {
-    must_find_in(2, Fault::CheckHeard, &[Finding::Rules, Finding::Zones]);
-    // The mark comes too early: the moment is a possible one, but not the one of the rules.
-    must_find_in(2, Fault::CheckMarks, &[Finding::Events]);
+    for edition in [2, 3] {
+        must_find_in(
+            edition,
+            Fault::CheckHeard,
+            &[Finding::Rules, Finding::Zones],
+        );
+        // The mark comes too early: the moment is a possible one, but not the one of the rules.
+        must_find_in(edition, Fault::CheckMarks, &[Finding::Events]);
+    }
 }
 
 #[test]
 fn checks_that_are_shown_are_caught() {
-    must_find_just(2, Fault::CheckShown, &[Finding::CheckShown]);
+    for edition in [2, 3] {
+        must_find_just(edition, Fault::CheckShown, &[Finding::CheckShown]);
+    }
     must_find_just(1, Fault::CheckShown, &[]);
 }
 
 #[test]
 fn the_wrong_edition_in_the_header_is_caught() {
-    must_find_just(2, Fault::HeaderOfEdition1, &[Finding::Bytes]);
+    for edition in [2, 3] {
+        must_find_just(edition, Fault::HeaderOfEdition1, &[Finding::Bytes]);
+    }
     must_find_just(1, Fault::HeaderOfEdition1, &[]);
+}
+
+/// A fault at the gates is none in an edition without them.
+fn must_find_at_gates(fault: Fault, wanted: &[Finding]) {
+    must_find_in(3, fault, wanted);
+    for edition in [1, 2] {
+        must_find_just(edition, fault, &[]);
+    }
+}
+
+/// The park refuses the exit, inside or outside, and keeps its stock.
+#[test]
+fn an_uncovered_exit_is_caught() {
+    let wanted = [
+        Finding::InsideStep,
+        Finding::OutsideStep,
+        Finding::RecordedStocks,
+        Finding::PresentStocks,
+    ];
+    must_find_at_gates(Fault::UncoveredExit, &wanted);
+}
+
+#[test]
+fn a_gate_of_0_cars_that_is_not_counted_is_caught() {
+    let wanted = [Finding::Events, Finding::RecordedStocks];
+    must_find_at_gates(Fault::EmptyGateUncounted, &wanted);
+}
+
+#[test]
+fn a_gate_that_marks_is_caught() {
+    must_find_at_gates(Fault::GateMarks, &[Finding::Events]);
+}
+
+/// Both halves of what is said of the total find each of these: what the bytes show, and the opening
+/// with the gate events inside.
+#[test]
+fn wrong_totals_are_caught() {
+    let both = [Finding::Total, Finding::Balance];
+    for fault in [
+        Fault::EntriesNotInTotal,
+        Fault::OpeningTotal,
+        Fault::PresentTotal,
+    ] {
+        must_find_just(3, fault, &both);
+        must_find_at_gates(fault, &both);
+    }
+}
+
+#[test]
+fn gates_in_edition_2_are_caught() {
+    must_find_in(2, Fault::GatesInEdition2, &[Finding::Rules]);
+    must_differ(2, Fault::GatesInEdition2, 15, &[0, 5, 7, 21]);
+    must_find_just(1, Fault::GatesInEdition2, &[]);
+    must_find_just(3, Fault::GatesInEdition2, &[]);
+    // Its journal is refused at the first gate record.
+    let mut refused = 0;
+    each_run(Fault::GatesInEdition2, 2, 300, |_, fitter| {
+        let first = fitter.records.iter().position(|&word| word >= 0xC000);
+        if let Some(position) = first {
+            let reading = journal::read(&fitter.journal());
+            assert_eq!((reading.refusal, reading.position), (18, position));
+            refused += 1;
+        }
+    });
+    assert!(refused >= 20);
+}
+
+/// The numbers must differ from those of the site in some lists: where they first do, the site gives
+/// its number and the faulty engine one of the others.
+fn must_differ(edition: u32, fault: Fault, number: u32, others: &[u32]) {
+    let mut lists = 0;
+    each_run(fault, edition, 2_000, |seen, _| {
+        let zones = seen.opening.len() as u32;
+        let (_, mut run) = Run::open(edition, zones, &seen.opening);
+        let mut numbers = seen.calls.iter().map(|&(call, it)| (run.call(call), it));
+        if let Some(pair) = numbers.find(|pair| pair.0 != pair.1) {
+            assert!(pair.0 == number && others.contains(&pair.1));
+            lists += 1;
+        }
+    });
+    println!("{fault:?}, edition {edition}: other numbers in {lists} lists");
+    assert!(lists >= 20);
+}
+
+/// Demand 3 has no limit on the sum, and asks nothing of refused calls: what 21 and 7 let through or
+/// keep back shows in the numbers. An engine that lets too many cars in has an unsound run.
+#[test]
+fn limits_at_the_gates_that_are_off_are_caught() {
+    for fault in [Fault::BlindToLines, Fault::BlindToOthers, Fault::OneMoreIn] {
+        must_differ(3, fault, 21, &[0]);
+    }
+    must_differ(3, Fault::RefusesTheLast, 0, &[21]);
+    must_differ(3, Fault::RefusesToEmpty, 0, &[7]);
+    must_differ(3, Fault::UncoveredExit, 7, &[0]);
+}
+
+/// The directions are swapped in the records alone: the recording is right, and the journal leads to
+/// other stocks, or to none.
+#[test]
+fn swapped_directions_in_the_record_are_caught() {
+    must_find_just(3, Fault::SwappedInRecord, &[]);
+    let (mut refused, mut other) = (0, 0);
+    each_run(Fault::SwappedInRecord, 3, 1_000, |seen, fitter| {
+        let reading = journal::read(&fitter.journal());
+        let stocks = reading.run.zones[..reading.run.size()].iter();
+        if reading.refusal != 0 {
+            assert_eq!(reading.refusal, 19);
+            refused += 1;
+        } else if !stocks.map(|zone| u64::from(zone.stock)).eq(seen.stocks) {
+            other += 1;
+        }
+    });
+    println!("swapped: {refused} journals refused, {other} with other stocks");
+    assert!(refused >= 100 && other >= 100);
 }

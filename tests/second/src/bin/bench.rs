@@ -11,19 +11,19 @@ fn main() {
     }
     let bytes = std::fs::read(&arguments[1]).expect("the journal can be read");
     let times: u32 = arguments[2].parse().expect("the times are a number");
-    let mut last = (0, 0, 0);
+    let mut last = (0, 0, 0, 0);
     for _ in 0..times {
         let reading = journal::read(black_box(&bytes));
         let mut lent = [0; print::MOST_BYTES];
-        let (refusal, written) = match reading.refusal {
+        let (refusal, written, total) = match reading.refusal {
             0 => recording::write(&reading.run, &mut lent),
-            _ => (0, 0),
+            _ => (0, 0, 0),
         };
         black_box(&lent);
-        last = (reading.refusal, refusal, written);
+        last = (reading.refusal, refusal, written, total);
     }
     println!(
-        "reading {}, recording {}, bytes written {}",
-        last.0, last.1, last.2
+        "reading {}, recording {}, bytes written {}, total {}",
+        last.0, last.1, last.2, last.3
     );
 }

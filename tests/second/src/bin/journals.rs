@@ -19,7 +19,7 @@ struct Tally {
 /// What a complete recording may have, with its name.
 type Trait = (&'static str, fn(&Traits) -> bool);
 
-const TRAITS: [Trait; 6] = [
+const TRAITS: [Trait; 9] = [
     ("a provisional mark turned firm", |t| t.turned_firm),
     ("a provisional mark left", |t| t.left_provisional),
     ("a recorded line above 16", |t| t.above_16),
@@ -30,6 +30,9 @@ const TRAITS: [Trait; 6] = [
     ("a marked hand-over of 0 cars taken", |t| {
         t.took_marked_check
     }),
+    ("a gate event inside", |t| t.gate_inside),
+    ("a gate event outside", |t| t.gate_outside),
+    ("a total above 65,535", |t| t.total > 65_535),
 ];
 
 impl Tally {
@@ -70,7 +73,7 @@ fn main() {
         eprintln!("usage: journals JOURNALS-FILE LINES-FILE [NUMBER]");
         std::process::exit(2);
     }
-    let number = arguments.get(3).map_or(400, |text| {
+    let number = arguments.get(3).map_or(generate::STORED, |text| {
         text.parse().expect("the number of journals is a number")
     });
     let journals = generate::journals(SEED, number);

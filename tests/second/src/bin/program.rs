@@ -138,8 +138,15 @@ fn split(mut bytes: &[u8]) -> Vec<Input> {
 fn made() -> Vec<Input> {
     let longest = generate::bytes_of(&longest());
     assert_eq!(longest.len(), 2_018);
-    let [widest, widest_2] = EDITIONS.map(|edition| generate::bytes_of(&widest(edition)));
-    for (widest, items) in [(&widest, 881), (&widest_2, 881 - 49)] {
+    let gates = generate::bytes_of(&gates());
+    assert_eq!(gates.len(), 2_018);
+    let [widest, widest_2, widest_3] = EDITIONS.map(|edition| generate::bytes_of(&widest(edition)));
+    let checks = 49;
+    for (widest, items) in [
+        (&widest, 881),
+        (&widest_2, 881 - checks),
+        (&widest_3, 881 - checks),
+    ] {
         assert_eq!(print::line(widest).len(), 3 * (2 + 4 * 8 + 2 * items));
     }
     let followed = |length: usize| {
@@ -159,6 +166,9 @@ fn made() -> Vec<Input> {
         Input::new("zeros", vec![0; 100_000]),
         Input::new("many items", widest),
         Input::new("many items and line checks", widest_2),
+        Input::new("many items and line checks in edition 3", widest_3),
+        Input::new("the longest journal of gates", gates),
+        Input::new("a total above 65,535", generate::GATED[0].to_vec()),
     ]
 }
 
@@ -186,9 +196,26 @@ fn longest() -> Run {
     run
 }
 
+/// A run of 8 zones and 1,000 accepted records, all but one of them gate calls: zone 8 has 999 own
+/// events, which its start shows.
+fn gates() -> Run {
+    let (_, mut run) = Run::open(3, 8, &[1_000; 8]);
+    while run.records.len() + 1 < MOST_RECORDS {
+        let cars = (run.records.len() % 256) as u8;
+        let refusal = match run.records.len() % 3 {
+            0 => run.leave(8, cars),
+            _ => run.enter(8, cars / 2),
+        };
+        assert_eq!(refusal, 0);
+    }
+    assert_eq!(run.start(8), 0);
+    assert_eq!(run.zones[7].events, 999);
+    run
+}
+
 /// A run of 8 zones and 1,000 accepted records whose recording has 881 items: zone 1 has heard all
 /// others and starts; these fill their lines before they take its requests, and zone 1 takes some
-/// items after its mark. In edition 2 the 49 of 0 cars are line checks and not shown.
+/// items after its mark. From edition 2 on the 49 of 0 cars are line checks and not shown.
 fn widest(edition: u32) -> Run {
     let (_, mut run) = Run::open(edition, 8, &[8_000; 8]);
     for zone in 2..=8 {
