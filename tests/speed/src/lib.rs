@@ -24,10 +24,10 @@ fn is_edition(edition: u8) -> bool {
     edition.wrapping_sub(FIRST_EDITION) < 3
 }
 
-/// The fewest cars of a hand-over that is traffic, in a sound edition.
+/// The fewest cars of a hand-over that is traffic, in a sound edition: 0 in the first, 1 in the others.
 #[inline]
 fn fewest(edition: u8) -> u16 {
-    u16::from(edition != FIRST_EDITION)
+    u16::from(edition / 2)
 }
 
 /// Question 15 at a gate, in a sound edition.
