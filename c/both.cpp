@@ -1,4 +1,5 @@
-// The headers from C++: a zone and a site are opened, and one refusal of each is met. Exits 1 if a value is not as it must be.
+// The headers from C++: a zone and a site are opened, cars drive in and out, and one refusal of each is met. Exits 1 if a value is not as it
+// must be.
 #include <cstdio>
 #include <cstdlib>
 #include <cstring>
@@ -17,14 +18,17 @@ static void must(bool holds, const char *what)
 
 int main()
 {
-    const cut_opening opening = cut_zone_open(2, 3, 1, 10);
-    must(opening.refusal == CUT_ACCEPTED && opening.zone.stock == 10 && opening.zone.edition == 2, "the zone opens");
+    const cut_opening opening = cut_zone_open(3, 3, 1, 10);
+    must(opening.refusal == CUT_ACCEPTED && opening.zone.stock == 10 && opening.zone.edition == 3, "the zone opens");
     const cut_step step = cut_zone_send(opening.zone, 2, 11);
     must(step.refusal == CUT_REFUSED_STOCK_TOO_LOW && step.zone.stock == 10, "11 of 10 cars are refused");
+    must(cut_zone_leave(cut_zone_enter(step.zone, 5).zone, 2).zone.stock == 13, "5 cars drive in and 2 out");
 
     cut_run run;
     const std::uint16_t stocks[] = {10, 20, 30};
-    must(cut_open(&run, 2, 3, stocks, 3) == CUT_ACCEPTED && run.head.zones[2].stock == 30, "the site opens");
+    must(cut_open(&run, 3, 3, stocks, 3) == CUT_ACCEPTED && run.head.zones[2].stock == 30, "the site opens");
+    must(cut_enter(&run, 3, 5) == CUT_ACCEPTED && cut_leave(&run, 3, 2) == CUT_ACCEPTED, "5 cars drive in at 3 and 2 out");
+    must(run.head.zones[2].stock == 33 && run.head.zones[2].events == 2, "both are counted");
     const std::uint8_t refusal = cut_receive(&run, 1, 2);
     must(refusal == CUT_REFUSED_CHANNEL_EMPTY, "nothing is on the line from 1 to 2");
     must(std::strcmp(cut_refusal_words(refusal), "the line is empty") == 0, "its words");

@@ -1,5 +1,6 @@
 /* A control room's desk: a whole run of three zones with 10, 20 and 30 cars, from the opening to the recording's bytes, then the same from
- * the journal alone, and line checks. Prints the recording; exits 1 if a value is not as it must be. */
+ * the journal alone, line checks and street entrances. Prints the recording and its total; exits 1 if a value is not as it must be. */
+#include <inttypes.h>
 #include <stdio.h>
 #include <stdlib.h>
 #include <string.h>
@@ -76,25 +77,66 @@ static void unlooked(void)
     must(other.head.zones[7].mark == 3 && other.head.records == run.head.records, "and left as it was");
 }
 
-/* Zone 1 checks its line to zone 2, which then starts: in edition 2 the check draws nobody into the recording, in edition 1 it does. */
+/* Zone 1 checks its line to zone 2, which then starts: in edition 1 the check draws zone 1 into the recording, from edition 2 on nobody. */
 static void checked(void)
 {
     const uint16_t stocks[] = {5, 7};
-    const uint8_t shown[] = {0x44, 0x00, 0x00, 0x00, 0x00, 0x05, 0x80, 0x00, 0x00, 0x07};
+    uint8_t shown[] = {0x44, 0x00, 0x00, 0x00, 0x00, 0x05, 0x80, 0x00, 0x00, 0x07};
     uint8_t bytes[CUT_RECORDING_BYTES];
     cut_run other;
-    must(cut_open(&other, 3, 2, stocks, 2) == CUT_REFUSED_EDITION, "edition 3 is not known");
+    must(cut_open(&other, 4, 2, stocks, 2) == CUT_REFUSED_EDITION, "edition 4 is not known");
     for (uint8_t edition = CUT_EDITION_FIRST; edition <= CUT_EDITION_LAST; edition++) {
         accepted(cut_open(&other, edition, 2, stocks, 2), "a site opens");
         accepted(cut_send(&other, 1, 2, 0), "1 hands 0 cars to 2");
         accepted(cut_receive(&other, 1, 2), "2 takes them");
         accepted(cut_start(&other, 2), "2 starts");
         cut_written w = cut_record(&other, bytes, sizeof bytes);
+        shown[0] = (uint8_t)(32 * edition + 4);
         if (edition == 1)
             must(w.refusal == CUT_REFUSED_REQUEST_UNDER_WAY, "1 is asked to take part");
         else
             must(w.written == sizeof shown && memcmp(bytes, shown, sizeof shown) == 0, "2 is recorded alone, without events");
     }
+}
+
+/* Zones 1 and 2 have street entrances, and 2 starts: what they count before their marks is in the recording and its total. */
+static void counted(void)
+{
+    const uint16_t stocks[] = {10, 20, 30};
+    const uint8_t shown[] = {0x68, 0x00, 0x80, 0x03, 0x00, 0x08, 0x80, 0x02, 0x00, 0x0F, 0x00, 0x00, 0x00, 0x1E};
+    uint8_t bytes[CUT_RECORDING_BYTES];
+    cut_run other;
+    accepted(cut_open(&other, 2, 3, stocks, 3), "a site opens");
+    must(cut_enter(&other, 1, 3) == CUT_REFUSED_EDITION, "edition 2 has no gates");
+    accepted(cut_open(&other, 3, 3, stocks, 3), "a site with gates opens");
+    accepted(cut_enter(&other, 1, 3), "3 cars drive in at 1");
+    accepted(cut_send(&other, 1, 2, 4), "1 hands 4 cars to 2");
+    accepted(cut_receive(&other, 1, 2), "2 takes them");
+    accepted(cut_leave(&other, 2, 9), "9 cars drive out at 2");
+    must(cut_leave(&other, 2, 16) == CUT_REFUSED_STOCK_TOO_LOW, "16 of 15 cars do not drive out");
+    accepted(cut_start(&other, 2), "2 starts");
+    accepted(cut_enter(&other, 2, 50), "50 cars drive in at 2, after its mark");
+    accepted(cut_leave(&other, 1, 1), "1 car drives out at 1");
+    accepted(cut_receive(&other, 2, 1), "1 takes the request");
+    accepted(cut_enter(&other, 1, 7), "7 cars drive in at 1, after its mark");
+    cut_written w = cut_record(&other, bytes, sizeof bytes);
+    must(w.written == sizeof shown && memcmp(bytes, shown, sizeof shown) == 0, "the recording is as worked out by hand");
+    must(w.total == 60 + 3 - 9 - 1, "its total is that of the opening, and of the gates inside the recording");
+}
+
+/* A full site lets cars in where as many have driven out. A recording that has the entries of one zone and not the exits of another has a
+ * total above what the site ever held. */
+static void full(void)
+{
+    const uint16_t stocks[] = {CUT_CARS_MAX, 0};
+    uint8_t bytes[CUT_RECORDING_BYTES];
+    cut_run other;
+    accepted(cut_open(&other, 3, 2, stocks, 2), "a full site opens");
+    must(cut_enter(&other, 2, 1) == CUT_REFUSED_SUM_TOO_HIGH, "no car drives in at 2");
+    accepted(cut_leave(&other, 1, 255), "255 cars drive out at 1");
+    accepted(cut_enter(&other, 2, 255), "255 cars drive in at 2");
+    accepted(cut_start(&other, 2), "2 starts");
+    must(cut_record(&other, bytes, sizeof bytes).total == CUT_CARS_MAX + 255, "the entry is recorded, the exit is not");
 }
 
 int main(void)
@@ -109,23 +151,25 @@ int main(void)
     accepted(cut_receive(&run, 2, 1), "1 takes the request");
 
     cut_written w = cut_write(&run, bytes, sizeof bytes);
-    must(w.refusal == CUT_ACCEPTED && w.written == sizeof journal, "the journal is written");
+    must(w.refusal == CUT_ACCEPTED && w.written == sizeof journal && w.total == 0, "the journal is written");
     must(memcmp(bytes, journal, sizeof journal) == 0, "the journal is as worked out by hand");
     w = cut_record(&run, bytes, sizeof bytes);
-    must(w.refusal == CUT_ACCEPTED && w.written == sizeof recording, "the recording is written");
+    must(w.refusal == CUT_ACCEPTED && w.written == sizeof recording && w.total == 60, "the recording is written");
     must(memcmp(bytes, recording, sizeof recording) == 0, "the recording is as worked out by hand");
 
     memset(bytes, 0, sizeof bytes);
     w = cut_journal_record(journal, sizeof journal, bytes, sizeof bytes);
-    must(w.refusal == CUT_ACCEPTED && w.written == sizeof recording, "the journal's recording is written");
+    must(w.refusal == CUT_ACCEPTED && w.written == sizeof recording && w.total == 60, "the journal's recording is written");
     must(memcmp(bytes, recording, sizeof recording) == 0, "it is the same");
     must(cut_journal_record(journal, sizeof journal - 1, bytes, sizeof bytes).refusal == CUT_REFUSED_LENGTH, "a cut journal is refused");
     damaged();
     unlooked();
     checked();
+    counted();
+    full();
 
     for (size_t i = 0; i < w.written; i++)
         printf(i == 0 ? "%02X" : " %02X", bytes[i]);
-    printf("\n");
+    printf(", total %" PRIu32 "\n", w.total);
     return 0;
 }

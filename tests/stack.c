@@ -36,7 +36,7 @@ static OWN void nothing(void)
 
 static OWN void call_zone_open(void)
 {
-    told(cut_zone_open(2, 8, 1, 100).refusal);
+    told(cut_zone_open(3, 8, 1, 100).refusal);
 }
 
 static OWN void call_zone_send(void)
@@ -63,6 +63,20 @@ static OWN void call_zone_request(void)
 static OWN void call_zone_start(void)
 {
     cut_step r = cut_zone_start(zone);
+    zone = r.zone;
+    told(r.refusal);
+}
+
+static OWN void call_zone_enter(void)
+{
+    cut_step r = cut_zone_enter(zone, 1);
+    zone = r.zone;
+    told(r.refusal);
+}
+
+static OWN void call_zone_leave(void)
+{
+    cut_step r = cut_zone_leave(zone, 1);
     zone = r.zone;
     told(r.refusal);
 }
@@ -97,6 +111,16 @@ static OWN void call_start(void)
     told(cut_start(&run, 1));
 }
 
+static OWN void call_enter(void)
+{
+    told(cut_enter(&run, 1, 1));
+}
+
+static OWN void call_leave(void)
+{
+    told(cut_leave(&run, 1, 1));
+}
+
 static OWN void call_record(void)
 {
     told(cut_record(&run, out, sizeof out).refusal);
@@ -129,12 +153,16 @@ static const struct {
     {"cut_zone_receive", call_zone_receive, CUT_ZONE_STACK},
     {"cut_zone_request", call_zone_request, CUT_ZONE_STACK},
     {"cut_zone_start", call_zone_start, CUT_ZONE_STACK},
+    {"cut_zone_enter", call_zone_enter, CUT_ZONE_STACK},
+    {"cut_zone_leave", call_zone_leave, CUT_ZONE_STACK},
     {"cut_zone_requests", call_zone_requests, CUT_ZONE_STACK},
     {"cut_zone_next", call_zone_next, CUT_ZONE_STACK},
     {"cut_open", call_open, CUT_OPEN_STACK},
     {"cut_send", call_send, CUT_CALL_STACK},
     {"cut_receive", call_receive, CUT_CALL_STACK},
     {"cut_start", call_start, CUT_CALL_STACK},
+    {"cut_enter", call_enter, CUT_CALL_STACK},
+    {"cut_leave", call_leave, CUT_CALL_STACK},
     {"cut_record", call_record, CUT_RECORD_STACK},
     {"cut_write", call_write, CUT_WRITE_STACK},
     {"cut_journal_read", call_journal_read, CUT_JOURNAL_READ_STACK},
@@ -175,17 +203,19 @@ static size_t used(void (*call)(void))
     return a > b ? a : b;
 }
 
-/* A run with items on channels, a start and receipts of requests, and records left for one call more. */
+/* A run with items on channels, gates, a start and receipts of requests, and records left for one call more. */
 static void prepare(void)
 {
     const uint16_t stocks[] = {1000, 1000, 1000};
-    told(cut_open(&first, 2, 3, stocks, 3));
+    told(cut_open(&first, 3, 3, stocks, 3));
     for (int k = 0; k < 490; k++) {
         told(cut_send(&first, (uint8_t)(k % 3 + 1), (uint8_t)((k + 1) % 3 + 1), 1));
         told(cut_receive(&first, (uint8_t)(k % 3 + 1), (uint8_t)((k + 1) % 3 + 1)));
     }
+    told(cut_enter(&first, 2, 1));
+    told(cut_leave(&first, 3, 1));
     told(cut_send(&first, 1, 2, 1));
-    heard = cut_zone_receive(cut_zone_open(2, 8, 1, 100).zone, 2, 1, 0).zone;
+    heard = cut_zone_receive(cut_zone_open(3, 8, 1, 100).zone, 2, 1, 0).zone;
 }
 
 int main(void)

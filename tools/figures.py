@@ -19,18 +19,20 @@ SITE = ["open", "send", "receive", "start", "write"]
 # The rest of the environment is left out, since its size moves the stack.
 ENVIRONMENT = {"GLIBC_TUNABLES": "glibc.cpu.x86_rep_movsb_threshold=1000000:glibc.cpu.x86_rep_stosb_threshold=1000000"}
 ZONE = ["zone-open", "zone-send", "zone-receive", "zone-request", "zone-start"]
+# Calls of an edition that has gates.
+GATES = ["enter", "leave", "zone-enter", "zone-leave"]
 
 
 def record(kind, a, b=0, cars=0):
     return kind << 14 | a << 11 | b << 8 | cars
 
 
-def in_bytes(zones, stock, words):
-    header = 1 << 13 | (zones - 1) << 10 | len(words)
+def in_bytes(zones, stock, words, edition=1):
+    header = edition << 13 | (zones - 1) << 10 | len(words)
     return b"".join(w.to_bytes(2, "big") for w in [header] + [stock] * zones + words)
 
 
-def ring(zones, records, complete=True):
+def ring(zones, records, complete=True, edition=1):
     """Traffic round a ring; then, complete, a start by zone 1 and the receipts of its requests, else one hand-over from 1 to 2."""
     words = []
     whole = complete and records >= 3 * zones
@@ -49,7 +51,7 @@ def ring(zones, records, complete=True):
             sender = receiver
     else:
         words.append(record(0, 0, 1))
-    return in_bytes(zones, 1000, words)
+    return in_bytes(zones, 1000, words, edition)
 
 
 def full(zones, records):
@@ -139,11 +141,12 @@ def single(folder):
     """Instructions alone: the time of a call less that of a copy would be a difference of two times that other work moves."""
     print("\n| Call | Zones | Instructions, proved | Instructions, second |\n|---|---|---|---|")
     for zones in (2, 8):
-        path = written(folder, ring(zones, 100, complete=False))
-        copies = {who: call(who, "copy", path)[0] for who in ("proved", "second")}
-        for name in SITE + ZONE:
-            taken = copies if name in ("send", "receive", "start") else dict.fromkeys(copies, 0)
-            row(name, [zones] + [call(who, name, path)[0] - taken[who] for who in copies])
+        for edition, names in ((1, SITE + ZONE), (3, GATES)):
+            path = written(folder, ring(zones, 100, complete=False, edition=edition))
+            copies = {who: call(who, "copy", path)[0] for who in ("proved", "second")}
+            for name in names:
+                taken = copies if name in ("send", "receive", "start", "enter", "leave") else dict.fromkeys(copies, 0)
+                row(name, [zones] + [call(who, name, path)[0] - taken[who] for who in copies])
 
 
 def size(path):

@@ -14,9 +14,12 @@ import tempfile
 SPEED = "tests/speed/target/release/speed"
 ROUNDS = 51
 RUNS = ["read", "record", "read-record", "write"]
-CALLS = ["send", "receive", "start"]
+CALLS = ["send", "receive", "start", "enter", "leave"]
+# The lines of whole runs; the last are of edition 3, with gates.
+LINES = [("ring", ("2", "4", "8")), ("full", ("2", "4", "8")), ("gates", ("2", "8"))]
 PARTS = [("read", "ring", "8", "1000"), ("record", "ring", "2", "10"), ("record", "ring", "8", "1000"), ("record", "full", "8", "1000"),
-         ("read-record", "full", "8", "1000"), ("write", "ring", "8", "1000"), ("send", "empty", "8", "99"), ("send", "full", "8", "854")]
+         ("read-record", "full", "8", "1000"), ("write", "ring", "8", "1000"), ("send", "empty", "8", "99"), ("send", "full", "8", "854"),
+         ("read", "gates", "8", "1000"), ("record", "gates", "8", "1000"), ("enter", "empty", "8", "99"), ("leave", "empty", "8", "99")]
 # Nanoseconds below which the time of a call cannot be told from that of measuring, so that a ratio would mean nothing.
 LEAST_NS = 5
 KEY = ["Call", "Lines", "Zones", "Records"]
@@ -119,6 +122,11 @@ def ratio(value, other):
     return shown(over(value, other), 1)
 
 
+def named(label):
+    """A call, and apart from it the same on a run with gates, so that the mean over editions 1 and 2 stays that of the same cases."""
+    return f"{label[0]}, gates" if label[1] == "gates" else label[0]
+
+
 def mean(ratios):
     """The geometric mean, where all are there."""
     return "-" if any(n is None or n <= 0 for n in ratios) else f"{statistics.geometric_mean(ratios):.2f}"
@@ -165,12 +173,12 @@ class Figures:
 
     def growth(self):
         pairs = [([call, lines, zones], (call, lines, zones, "100"), (call, lines, zones, "1000"))
-                 for call in RUNS for lines in ("ring", "full") for zones in ("2", "4", "8")]
+                 for call in RUNS for lines, counts in LINES for zones in counts]
         print("\nInstructions that a record more adds, from 100 to 1,000:")
         self.slopes(["Call", "Lines", "Zones"], pairs, 900)
         ends = {zones: [label for label in self.labels if label[2] == zones] for zones in ("2", "8")}
-        pairs = [([first[0], first[1]], first, last) for first in ends["2"] for last in ends["8"]
-                 if first[:2] == last[:2] and (first[1:] == ("ring", "2", "1000") and last[3] == "1000" or first[0] in CALLS)]
+        pairs = [([first[0], first[1]], first, last) for first in ends["2"] for last in ends["8"] if first[:2] == last[:2]
+                 and (first[1] in ("ring", "gates") and first[3] == last[3] == "1000" or first[0] in CALLS)]
         print("\nInstructions that a zone more adds, from 2 to 8; whole runs of 1,000 records:")
         self.slopes(["Call", "Lines"], pairs, 6)
 
@@ -184,8 +192,8 @@ class Figures:
     def means(self):
         head(["Call", "Cases"] + ["Instructions before / peer"] * self.old + ["Instructions, proved / peer"]
              + [BEFORE_NS] * self.old + [RATIO_NS])
-        for call in dict.fromkeys(label[0] for label in self.labels):
-            labels = [label for label in self.labels if label[0] == call]
+        for call in dict.fromkeys(map(named, self.labels)):
+            labels = [label for label in self.labels if named(label) == call]
             ratios = [[over(self.counts.get((label, who)), self.counts[label, "peer"]) for label in labels] for who in self.who[:-1]]
             ratios += zip(*(self.ratios_ns(label) for label in labels))
             row([call, str(len(labels))] + [mean(values) for values in ratios])

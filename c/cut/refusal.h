@@ -10,9 +10,9 @@
 /* The version of the calls and structs. The major number, which is the library's soname too, is raised when a program would have to be
  * compiled anew. */
 #define CUT_VERSION_MAJOR 2
-#define CUT_VERSION_MINOR 0
+#define CUT_VERSION_MINOR 1
 #define CUT_VERSION_PATCH 0
-#define CUT_VERSION "2.0.0"
+#define CUT_VERSION "2.1.0"
 
 /* The first and the last "edition" of zones, runs, journals and recordings that this version knows. An opening that names another one and a
  * journal of another one are refused with 15, a zone or a run of another one with 1.
@@ -20,9 +20,13 @@
  * Edition 2 is edition 1, but a message ("hand-over") of 0 cars is a line check there, and no traffic. It is sent and received by the same
  * calls, with its flag ("marked bit"), takes a place on its channel ("line") and, in a run, a record. But it is no "own event" of its sender
  * or its receiver, adds nothing to a dependency set ("heard set"), causes no checkpoint ("mark") and is not shown in a snapshot
- * ("recording"). */
+ * ("recording").
+ *
+ * Edition 3 is edition 2 with gates: a zone with a street entrance counts the cars that drive in ("entry") and out ("exit"). Each is an "own
+ * event" of its zone, also with 0 cars, and takes a record in a run; it adds nothing to a dependency set, causes no checkpoint and sends
+ * no request. In an earlier edition it is refused with 15. */
 #define CUT_EDITION_FIRST 1
-#define CUT_EDITION_LAST 2
+#define CUT_EDITION_LAST 3
 
 /* The limits: the "zones" of a site; the "records" of a run, and the "own events" of a zone in the zone part; the "cars" of a site, its
  * stocks and what is on its channels ("lines") together, and so the "stock" of a zone. */
@@ -47,7 +51,8 @@ enum cut_refusal {
     CUT_REFUSED_ZONE = 5,
     /* "Are there fewer than 1,000 records?" No: 1,000 records (zone part: own events) are there. */
     CUT_REFUSED_RUN_FULL = 6,
-    /* "Does the sender's stock cover the cars?" No: the sender's stock does not cover the cars. */
+    /* "Does the sender's stock cover the cars?" At an exit: does the zone's? No: the sender's stock, or that of an exit's zone, does not
+     * cover the cars. */
     CUT_REFUSED_STOCK_TOO_LOW = 7,
     /* "Has the line a free place?" No: the line is full. */
     CUT_REFUSED_CHANNEL_FULL = 8,
@@ -63,8 +68,8 @@ enum cut_refusal {
     CUT_REFUSED_REQUEST_UNDER_WAY = 13,
     /* "Are the lent bytes enough?" No: too few bytes were lent. */
     CUT_REFUSED_TOO_FEW_BYTES = 14,
-    /* "Has the journal two bytes and edition 1", or 2? In an opening: is the edition that it names 1 or 2? No: the edition is not 1 or 2, or
-     * (reading) there is no header. */
+    /* "Has the journal two bytes and edition 1", 2 or 3? In an opening: is the edition that it names 1 to 3? At a gate: "does the run's
+     * edition have gates?" No: the edition is not 1 to 3, or (gates) has none, or (reading) there is no header. */
     CUT_REFUSED_EDITION = 15,
     /* "Is the zones field 1 to 7 and the record number at most 1,000?" No: the header's zones or records are out of range. */
     CUT_REFUSED_HEADER = 16,
@@ -75,7 +80,10 @@ enum cut_refusal {
     /* "Is its call accepted?" No: the call of the record at the position is not accepted. */
     CUT_REFUSED_RECORD_CALL = 19,
     /* "Does the zone's stock stay at or below 65,535?" No: the zone's stock would exceed 65,535 (zone part alone). */
-    CUT_REFUSED_STOCK_TOO_HIGH = 20
+    CUT_REFUSED_STOCK_TOO_HIGH = 20,
+    /* Do "stocks plus cars on lines" stay at or below 65,535 with the cars of an entry? No: an entry would lift stocks and cars on lines
+     * above 65,535. */
+    CUT_REFUSED_SUM_TOO_HIGH = 21
 };
 
 /* The kinds of a checkpoint ("mark"): none, mutable ("provisional") or permanent ("firm"). The field that holds one is a byte; every other
@@ -119,7 +127,7 @@ static inline const char *cut_refusal_words(uint8_t refusal)
     case CUT_REFUSED_RUN_FULL:
         return "1,000 records (zone part: own events) are there";
     case CUT_REFUSED_STOCK_TOO_LOW:
-        return "the sender's stock does not cover the cars";
+        return "the sender's stock, or that of an exit's zone, does not cover the cars";
     case CUT_REFUSED_CHANNEL_FULL:
         return "the line is full";
     case CUT_REFUSED_CHANNEL_EMPTY:
@@ -135,7 +143,7 @@ static inline const char *cut_refusal_words(uint8_t refusal)
     case CUT_REFUSED_TOO_FEW_BYTES:
         return "too few bytes were lent";
     case CUT_REFUSED_EDITION:
-        return "the edition is not 1 or 2, or (reading) there is no header";
+        return "the edition is not 1 to 3, or (gates) has none, or (reading) there is no header";
     case CUT_REFUSED_HEADER:
         return "the header's zones or records are out of range";
     case CUT_REFUSED_LENGTH:
@@ -146,6 +154,8 @@ static inline const char *cut_refusal_words(uint8_t refusal)
         return "the call of the record at the position is not accepted";
     case CUT_REFUSED_STOCK_TOO_HIGH:
         return "the zone's stock would exceed 65,535 (zone part alone)";
+    case CUT_REFUSED_SUM_TOO_HIGH:
+        return "an entry would lift stocks and cars on lines above 65,535";
     default:
         return "not a number that a call answers";
     }

@@ -8,11 +8,11 @@
  *     uint8_t refusal = cut_send(&run, from, to, cars);
  *
  * A call answers CUT_ACCEPTED, or the first refusal of its list, from left to right, that holds (cut_refusal_words gives its words); then the
- * run and every lent byte are as they were, and `written` is 0. Every value of every field and argument may be passed. Pointers must not
- * be null, also where a length is 0, must name as many values as the length or the array's type says, and what is written through one must
- * not overlap what another names.
+ * run and every lent byte are as they were, and `written` and `total` are 0. Every value of every field and argument may be passed. Pointers
+ * must not be null, also where a length is 0, must name as many values as the length or the array's type says, and what is written through
+ * one must not overlap what another names.
  *
- * A run is sound where edition is 1 or 2, count is 2 to 8, records is at most 1,000, no zone of the site has more own events than there are
+ * A run is sound where edition is 1 to 3, count is 2 to 8, records is at most 1,000, no zone of the site has more own events than there are
  * records, every set of its zones and requests names only zones of the site, no channel ("line") has more than 16 items, stocks and cars on
  * channels are at most 65,535 together, and no mark is above 2. Recording and journal writing also ask whether the run is what its journal
  * replays to under its edition. A call on any other run is refused with 1.
@@ -27,9 +27,11 @@
  * Journal: edition * 8192 + (zones - 1) * 1024 + number of records; the opening stock of each zone; a word a record:
  *     kind * 16384 + (first zone - 1) * 2048 + (second zone - 1) * 256 + cars
  * with kind 0 a message ("hand-over") from first to second, kind 1 a "receipt" on that channel (cars 0), kind 2 a "start" by the first (both
- * others 0).
+ * others 0); and from edition 3 on kind 3 a gate of the first zone, where in the place of (second zone - 1) stands 0 for an "entry" and 1 for
+ * an "exit".
  * Recording: edition * 8192 + (zones - 1) * 1024 + number of items; for each zone 32768 where it is permanent ("firm") plus its events, then
- * its stock; then each item on a channel as a record of kind 0, by sender, then receiver, then order sent; in edition 2 those with cars. */
+ * its stock; then each item on a channel as a record of kind 0, by sender, then receiver, then order sent; from edition 2 on those with
+ * cars. */
 #ifndef CUT_SITE_H
 #define CUT_SITE_H
 
@@ -51,8 +53,8 @@ extern "C" {
 #define CUT_JOURNAL_BYTES 2018
 #define CUT_RECORDING_BYTES 2034
 
-/* Bytes of stack that are enough for a call, as in <cut/zone.h>: cut_open; cut_send, cut_receive and cut_start; cut_record; cut_write; and
- * the two calls on a journal. */
+/* Bytes of stack that are enough for a call, as in <cut/zone.h>: cut_open; cut_send, cut_receive, cut_start, cut_enter and cut_leave;
+ * cut_record; cut_write; and the two calls on a journal. */
 #define CUT_OPEN_STACK 4608
 #define CUT_CALL_STACK 2048
 #define CUT_RECORD_STACK 36864
@@ -63,9 +65,9 @@ extern "C" {
 /* A "zone" of a run. 10 bytes, alignment 2. */
 typedef struct cut_local {
     uint16_t stock;  /* the "stock": the cars in the zone */
-    uint16_t events; /* the "own events": messages ("hand-overs") sent and received, in edition 2 those with cars */
-    uint8_t deps;    /* the dependency set ("heard set"): the zone and those that it received messages from before its checkpoint, in
-                        edition 2 messages with cars */
+    uint16_t events; /* the "own events": messages ("hand-overs") sent and received, from edition 2 on those with cars; entries and exits */
+    uint8_t deps;    /* the dependency set ("heard set"): the zone and those that it received messages from before its checkpoint, from
+                        edition 2 on messages with cars */
     uint8_t mark;    /* the kind of its checkpoint ("mark: none, provisional or firm"), an enum cut_mark_kind */
     cut_saved saved; /* what the checkpoint keeps; with CUT_MARK_NONE it means nothing, and an accepted call writes it as 0 */
 } cut_local;
@@ -126,6 +128,8 @@ typedef struct cut_reading {
 /* What writing answers. 24 bytes, alignment 8. */
 typedef struct cut_written {
     uint8_t refusal; /* the "refusal", an enum cut_refusal */
+    uint32_t total;  /* "the recorded total" of cut_record and cut_journal_record: the cars of the recording's stocks and items together;
+                        0 of cut_write */
     size_t position; /* of cut_journal_record, as in a cut_reading; else 0 */
     size_t written;  /* "the number of bytes written" to the front of out; bytes behind them keep what they had */
 } cut_written;
@@ -139,6 +143,8 @@ CUT_STATIC_ASSERT(offsetof(cut_head, edition) == 1 && offsetof(cut_head, records
 CUT_STATIC_ASSERT(offsetof(cut_head, zones) == 4 && offsetof(cut_head, opening) == 84, "the layout that the library has");
 CUT_STATIC_ASSERT(offsetof(cut_run, items) == 100 && offsetof(cut_run, lens) == 2148, "the layout that the library has");
 CUT_STATIC_ASSERT(offsetof(cut_run, journal) == 2212 && offsetof(cut_reading, position) == 4216, "the layout that the library has");
+CUT_STATIC_ASSERT(offsetof(cut_written, total) == 4 && offsetof(cut_written, position) == 8, "the layout that the library has");
+CUT_STATIC_ASSERT(offsetof(cut_written, written) == 16, "the layout that the library has");
 CUT_STATIC_ASSERT(CUT_JOURNAL_BYTES == 2 + 2 * CUT_ZONES_MAX + 2 * CUT_RECORDS_MAX, "a word a zone and a word a record");
 CUT_STATIC_ASSERT(CUT_RECORDING_BYTES == 2 + 4 * CUT_ZONES_MAX + 2 * CUT_RECORDS_MAX, "two words a zone, and no more items than records");
 
@@ -157,6 +163,12 @@ cut_head_answer cut_site_receive(cut_head head, uint16_t *items, uint8_t *lens, 
 /* cut_start ("start"). Stack: CUT_CALL_STACK. */
 cut_head_answer cut_site_start(cut_head head, uint16_t *items, uint8_t *lens, uint16_t *journal, uint8_t zone);
 
+/* cut_enter ("entry"). Stack: CUT_CALL_STACK. */
+cut_head_answer cut_site_enter(cut_head head, uint16_t *items, uint8_t *lens, uint16_t *journal, uint8_t zone, uint8_t cars);
+
+/* cut_leave ("exit"). Stack: CUT_CALL_STACK. */
+cut_head_answer cut_site_leave(cut_head head, uint16_t *items, uint8_t *lens, uint16_t *journal, uint8_t zone, uint8_t cars);
+
 /* cut_record ("recording"). Stack: CUT_RECORD_STACK. */
 cut_written cut_site_record(cut_head head, const uint16_t *items, const uint8_t *lens, const uint16_t *journal, uint8_t *out, size_t size);
 
@@ -164,16 +176,16 @@ cut_written cut_site_record(cut_head head, const uint16_t *items, const uint8_t 
 cut_written cut_journal_write(cut_head head, const uint16_t *items, const uint8_t *lens, const uint16_t *journal, uint8_t *out, size_t size);
 
 /* Reads a journal of `size` bytes ("reading"); it is replayed under its own edition. Refused with: 15 it has no header, of two bytes, or its
- * edition is not 1 or 2; 16 the header's zones or records are out of range; 17 its length does not fit the header; 4 the stocks sum to more
+ * edition is not 1 to 3; 16 the header's zones or records are out of range; 17 its length does not fit the header; 4 the stocks sum to more
  * than 65,535; then for each record in turn 18 it is not well formed, 19 its call is not accepted. Stack: CUT_JOURNAL_READ_STACK, of which
  * the answer takes 4,232 bytes. */
 cut_reading cut_journal_read(const uint8_t *bytes, size_t size);
 
-/* Reads a journal of `size` bytes and writes its snapshot ("recording") to `room` bytes; CUT_RECORDING_BYTES are enough. Refused with:
- * reading's numbers, then 12, 13, 14. Stack: CUT_JOURNAL_RECORD_STACK. */
+/* Reads a journal of `size` bytes and writes its snapshot ("recording") to `room` bytes; CUT_RECORDING_BYTES are enough. It answers the
+ * recorded total too. Refused with: reading's numbers, then 12, 13, 14. Stack: CUT_JOURNAL_RECORD_STACK. */
 cut_written cut_journal_record(const uint8_t *bytes, size_t size, uint8_t *out, size_t room);
 
-/* Opens a site of `count` zones with their n stocks under an edition ("open"). Refused with: 15 the edition is not 1 or 2; 2 the count is not
+/* Opens a site of `count` zones with their n stocks under an edition ("open"). Refused with: 15 the edition is not 1 to 3; 2 the count is not
  * 2 to 8; 3 n is not the count; 4 the stocks sum to more than 65,535. Then *run is as it was. Stack: CUT_OPEN_STACK, of which the library's
  * answer takes 4,214 bytes. */
 static inline uint8_t cut_open(cut_run *run, uint8_t edition, uint8_t count, const uint16_t *stocks, size_t n)
@@ -184,9 +196,10 @@ static inline uint8_t cut_open(cut_run *run, uint8_t edition, uint8_t count, con
     return a.refusal;
 }
 
-/* Sends a message ("hand-over") of `cars` from one zone to another; in edition 2 one of 0 cars is a line check, which takes a place on its
- * channel and a record and changes no zone. Refused with, a check too: 1 the run is not sound; 5 a zone is not on the site, or both are the
- * same; 6 there are 1,000 records; 7 the sender's stock does not cover the cars; 8 the channel ("line") is full. Stack: CUT_CALL_STACK. */
+/* Sends a message ("hand-over") of `cars` from one zone to another; from edition 2 on one of 0 cars is a line check, which takes a place on
+ * its channel and a record and changes no zone. Refused with, a check too: 1 the run is not sound; 5 a zone is not on the site, or both are
+ * the same; 6 there are 1,000 records; 7 the sender's stock does not cover the cars; 8 the channel ("line") is full. Stack:
+ * CUT_CALL_STACK. */
 static inline uint8_t cut_send(cut_run *run, uint8_t from, uint8_t to, uint8_t cars)
 {
     cut_head_answer t = cut_site_send(run->head, run->items, run->lens, run->journal, from, to, cars);
@@ -215,9 +228,31 @@ static inline uint8_t cut_start(cut_run *run, uint8_t zone)
     return t.refusal;
 }
 
-/* Writes the snapshot ("recording") to `size` bytes, with the run's edition; CUT_RECORDING_BYTES are enough. Refused with: 1, also where the
- * run is not what its journal replays to; 12 no recording was started; 13 a request is still on a channel ("line"); 14 too few bytes are
- * lent. Stack: CUT_RECORD_STACK. */
+/* Counts `cars` that drive in through a zone's gate ("entry"), from edition 3 on: its stock rises by them. One of 0 cars is an own event and
+ * a record too. Refused with: 1; 15 the run's edition has no gates; 5; 6; 21 stocks and cars on channels ("lines") would be above 65,535
+ * together. Stack: CUT_CALL_STACK. */
+static inline uint8_t cut_enter(cut_run *run, uint8_t zone, uint8_t cars)
+{
+    cut_head_answer t = cut_site_enter(run->head, run->items, run->lens, run->journal, zone, cars);
+    if (t.refusal == CUT_ACCEPTED)
+        run->head = t.head;
+    return t.refusal;
+}
+
+/* Counts `cars` that drive out through a zone's gate ("exit"), as cut_enter those that drive in: its stock falls by them. Refused with: 1; 15;
+ * 5; 6; 7 the zone's stock does not cover the cars. Stack: CUT_CALL_STACK. */
+static inline uint8_t cut_leave(cut_run *run, uint8_t zone, uint8_t cars)
+{
+    cut_head_answer t = cut_site_leave(run->head, run->items, run->lens, run->journal, zone, cars);
+    if (t.refusal == CUT_ACCEPTED)
+        run->head = t.head;
+    return t.refusal;
+}
+
+/* Writes the snapshot ("recording") to `size` bytes, with the run's edition; CUT_RECORDING_BYTES are enough. It answers the recorded total
+ * too, which is that of the opening plus the entries less the exits inside the recording, and may be above 65,535. Refused with: 1, also
+ * where the run is not what its journal replays to; 12 no recording was started; 13 a request is still on a channel ("line"); 14 too few
+ * bytes are lent. Stack: CUT_RECORD_STACK. */
 static inline cut_written cut_record(const cut_run *run, uint8_t *out, size_t size)
 {
     return cut_site_record(run->head, run->items, run->lens, run->journal, out, size);

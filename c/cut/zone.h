@@ -12,7 +12,7 @@
  * A call answers CUT_ACCEPTED, or the first refusal of its list, from left to right, that holds (cut_refusal_words gives its words); then a
  * step's zone comes back equal in every field, and flag, to and carried are 0. Every value of every field and argument may be passed.
  *
- * A zone is sound where edition is 1 or 2, count is 2 to 8, number is 1 to count, deps names only zones of the site, events is at most 1,000
+ * A zone is sound where edition is 1 to 3, count is 2 to 8, number is 1 to count, deps names only zones of the site, events is at most 1,000
  * and mark is at most 2. A step on any other zone is refused with 1. All zones of a site are opened with the same edition.
  *
  * The calls keep no state of their own, allocate nothing, never block and always return, so that threads may call at once on different
@@ -44,11 +44,11 @@ typedef struct cut_saved {
 typedef struct cut_zone {
     uint8_t number;  /* the "zone number", from 1 */
     uint8_t count;   /* the "zone count" of its site */
-    uint8_t deps;    /* the dependency set ("heard set"): the zone and those that it received messages from before its checkpoint, in
-                        edition 2 messages with cars */
+    uint8_t deps;    /* the dependency set ("heard set"): the zone and those that it received messages from before its checkpoint, from
+                        edition 2 on messages with cars */
     uint8_t edition; /* the "edition" that its opening named */
     uint16_t stock;  /* the "stock": the cars in the zone */
-    uint16_t events; /* the "own events": messages ("hand-overs") sent and received, in edition 2 those with cars */
+    uint16_t events; /* the "own events": messages ("hand-overs") sent and received, from edition 2 on those with cars; entries and exits */
     cut_saved saved; /* what the checkpoint keeps; with CUT_MARK_NONE it means nothing, and an accepted step writes it as 0 */
     uint32_t mark;   /* the kind of its checkpoint ("mark: none, provisional or firm"), an enum cut_mark_kind */
 } cut_zone;
@@ -75,19 +75,19 @@ CUT_STATIC_ASSERT(offsetof(cut_zone, edition) == 3 && offsetof(cut_zone, saved) 
                   "the layout that the library has");
 CUT_STATIC_ASSERT(offsetof(cut_opening, refusal) == 16 && offsetof(cut_step, carried) == 19, "the layout that the library has");
 
-/* Opens zone `number` of `count` under an edition ("opening one zone"). Refused with: 15 the edition is not 1 or 2; 2 the count is not 2 to 8;
+/* Opens zone `number` of `count` under an edition ("opening one zone"). Refused with: 15 the edition is not 1 to 3; 2 the count is not 2 to 8;
  * 5 the number is not 1 to count. Stack: CUT_ZONE_STACK. */
 cut_opening cut_zone_open(uint8_t edition, uint8_t count, uint8_t number, uint16_t stock);
 
-/* Sends a message ("hand-over") of `cars` to zone `to`: put it on the channel ("line") with the answer's flag ("marked bit"). In edition 2 one
- * of 0 cars is a line check: it gets its flag and changes nothing in the zone. Refused with, a check too: 1 the zone is not sound; 5 `to`
- * is not on the site or is the zone itself; 6 it has 1,000 own events; 7 its stock does not cover the cars. Stack: CUT_ZONE_STACK. */
+/* Sends a message ("hand-over") of `cars` to zone `to`: put it on the channel ("line") with the answer's flag ("marked bit"). From edition 2
+ * on one of 0 cars is a line check: it gets its flag and changes nothing in the zone. Refused with, a check too: 1 the zone is not sound;
+ * 5 `to` is not on the site or is the zone itself; 6 it has 1,000 own events; 7 its stock does not cover the cars. Stack: CUT_ZONE_STACK. */
 cut_step cut_zone_send(cut_zone zone, uint8_t to, uint8_t cars);
 
-/* Receives a message (takes a "hand-over") from zone `from`; any flag ("marked bit") but 0 counts as 1. In edition 2 one of 0 cars is a line
- * check: whatever its flag, it changes nothing in the zone. Refused with, a check too: 1; 5 `from` is not on the site or is the zone itself;
- * 6; 20 the stock would exceed 65,535. With 6 and 20 the item stays first on its channel ("line"); with 5 it is no item of this site. Stack:
- * CUT_ZONE_STACK. */
+/* Receives a message (takes a "hand-over") from zone `from`; any flag ("marked bit") but 0 counts as 1. From edition 2 on one of 0 cars is
+ * a line check: whatever its flag, it changes nothing in the zone. Refused with, a check too: 1; 5 `from` is not on the site or is the zone
+ * itself; 6; 20 the stock would exceed 65,535. With 6 and 20 the item stays first on its channel ("line"); with 5 it is no item of this
+ * site. Stack: CUT_ZONE_STACK. */
 cut_step cut_zone_receive(cut_zone zone, uint8_t from, uint8_t cars, uint8_t flag);
 
 /* Receives (takes) a "request" with its set: send a request carrying `carried` to each zone of `to`. Refused with: 1; 5 the set names a zone
@@ -97,6 +97,14 @@ cut_step cut_zone_request(cut_zone zone, uint8_t set);
 /* Starts a recording ("start"), with this zone as its initiator ("starter"): send a request carrying `carried` to each zone of `to`. Refused
  * with: 1; 11 the zone has a checkpoint ("mark"). Stack: CUT_ZONE_STACK. */
 cut_step cut_zone_start(cut_zone zone);
+
+/* Counts `cars` that drive in through the zone's gate ("entry"), from edition 3 on: the stock rises by them. One of 0 cars is an own event
+ * too; flag, to and carried are 0. Refused with: 1; 15 the zone's edition has no gates; 6; 20. Stack: CUT_ZONE_STACK. */
+cut_step cut_zone_enter(cut_zone zone, uint8_t cars);
+
+/* Counts `cars` that drive out through the zone's gate ("exit"), as cut_zone_enter those that drive in: the stock falls by them. Refused
+ * with: 1; 15; 6; 7. Stack: CUT_ZONE_STACK. */
+cut_step cut_zone_leave(cut_zone zone, uint8_t cars);
 
 /* The number of zones of a set, so of the requests to be sent to it ("the number sent"). Stack: CUT_ZONE_STACK. */
 uint32_t cut_zone_requests(uint8_t to);

@@ -2,20 +2,22 @@
 
 use crate::count::{Counts, Failure};
 use crate::pair::{self, Pair};
+use second::edition::EDITIONS;
 use second::generate;
 use second::journal::{self, decode};
-use second::random::{any_edition, cars, drive, edition, stocks, Habits, Random};
+use second::random::{any_edition, cars, direction, drive, edition, stocks, Habits, Random};
 use second::site::{Call, MOST_RECORDS, PLACES};
 
 type Shape = fn(&mut Counts, &mut Random) -> Result<(), Failure>;
 
-/// The shapes take turns; one that stands here twice comes twice as often.
-const SHAPES: [Shape; 16] = [
+/// The shapes take turns; one that stands here more than once comes so much more often.
+const SHAPES: [Shape; 19] = [
     drawn,
     drawn,
     replayed,
     replayed,
     replayed,
+    turned,
     turned,
     turned,
     ring,
@@ -27,6 +29,8 @@ const SHAPES: [Shape; 16] = [
     restarted,
     strayed,
     full,
+    gated,
+    brimming,
 ];
 
 pub fn trial(counts: &mut Counts, random: &mut Random, index: usize) -> Result<(), Failure> {
@@ -103,6 +107,15 @@ fn narrow(call: Call) -> Call {
             to: to % 256,
         },
         Call::Start { zone } => Call::Start { zone: zone % 256 },
+        Call::Gate {
+            direction,
+            zone,
+            cars,
+        } => Call::Gate {
+            direction,
+            zone: zone % 256,
+            cars,
+        },
     }
 }
 
@@ -115,14 +128,19 @@ pub fn stray(random: &mut Random, zones: u32) -> Call {
         _ => random.within(1, zones.max(1)),
     };
     let (from, to) = (zone(), zone());
-    match random.below(3) {
+    match random.below(4) {
         0 => Call::HandOver {
             from,
             to,
             cars: cars(random),
         },
         1 => Call::Receipt { from, to },
-        _ => Call::Start { zone: from },
+        2 => Call::Start { zone: from },
+        _ => Call::Gate {
+            direction: direction(random),
+            zone: from,
+            cars: cars(random),
+        },
     }
 }
 
@@ -162,7 +180,8 @@ fn replay(counts: &mut Counts, random: &mut Random, kind: usize) -> Result<(), F
         if random.chance(strays) {
             pair.call(stray(random, run.count))?;
         }
-        pair.call(decode(word).expect("a record of a run is well formed"))?;
+        let call = decode(edition, word);
+        pair.call(call.expect("a record of a run is well formed"))?;
     }
     pair.end()
 }
@@ -325,7 +344,11 @@ fn poor(counts: &mut Counts, random: &mut Random) -> Result<(), Failure> {
             2 => stock.min(255),
             _ => 0,
         };
-        pair.send(from, to, cars as u8)?;
+        if random.chance(80) {
+            pair.send(from, to, cars as u8)?;
+        } else {
+            pair.leave(from, cars as u8)?;
+        }
         if random.chance(60) {
             let (from, to) = two(random, zones);
             pair.receive(from, to)?;
@@ -341,8 +364,9 @@ fn poor(counts: &mut Counts, random: &mut Random) -> Result<(), Failure> {
 /// Starts before all traffic, in its midst, after it, and each time again.
 fn restarted(counts: &mut Counts, random: &mut Random) -> Result<(), Failure> {
     let zones = random.within(2, 8);
-    let habits = Habits::draw(random, zones).tame().starting(100);
     let mut pair = opened(counts, random, zones)?;
+    let habits = Habits::draw(random, zones).tame().starting(100);
+    let habits = habits.gates_of(random, pair.run.edition);
     let early = random.chance(30);
     for step in 0..random.within(1, 80) {
         if step == 0 && early {
@@ -359,8 +383,9 @@ fn restarted(counts: &mut Counts, random: &mut Random) -> Result<(), Failure> {
 /// Half of the calls name wrong zones.
 fn strayed(counts: &mut Counts, random: &mut Random) -> Result<(), Failure> {
     let zones = random.within(2, 8);
-    let habits = Habits::draw(random, zones).tame();
     let mut pair = opened(counts, random, zones)?;
+    let habits = Habits::draw(random, zones).tame();
+    let habits = habits.gates_of(random, pair.run.edition);
     for _ in 0..random.within(1, 80) {
         let call = if random.chance(50) {
             stray(random, zones)
@@ -373,11 +398,12 @@ fn strayed(counts: &mut Counts, random: &mut Random) -> Result<(), Failure> {
     pair.end()
 }
 
-/// A run driven to 1,000 records, and then every kind of call: all of them meet 6, or 5 before.
+/// A run driven to 1,000 records, and then every kind of call: all of them meet 6, or 15 or 5 before.
 fn full(counts: &mut Counts, random: &mut Random) -> Result<(), Failure> {
     let zones = random.within(2, 8);
-    let habits = Habits::draw(random, zones).tame().starting(3);
     let mut pair = opened(counts, random, zones)?;
+    let habits = Habits::draw(random, zones).tame().starting(3);
+    let habits = habits.gates_of(random, pair.run.edition);
     for _ in 0..random.within(200, 2_000) {
         pair.call(habits.call(random))?;
     }
@@ -400,7 +426,74 @@ fn full(counts: &mut Counts, random: &mut Random) -> Result<(), Failure> {
         pair.send(from, to, cars(random))?;
         pair.receive(from, to)?;
         pair.start(from)?;
+        pair.enter(from, cars(random))?;
+        pair.leave(from, cars(random))?;
         pair.call(stray(random, zones))?;
     }
+    pair.end()
+}
+
+/// Gates beside traffic, before a start and after it, at every zone or at a few.
+fn gated(counts: &mut Counts, random: &mut Random) -> Result<(), Failure> {
+    let zones = random.within(2, 8);
+    let mut pair = opened(counts, random, zones)?;
+    let last = random.within(1, zones);
+    let steps = random.within(10, 120);
+    let start = random.within(0, steps);
+    for step in 0..steps {
+        let zone = random.within(1, last);
+        pair.gate(direction(random), zone, cars(random))?;
+        let (from, to) = two(random, zones);
+        if random.chance(60) {
+            pair.send(from, to, cars(random))?;
+        }
+        if random.chance(60) {
+            pair.receive(from, to)?;
+        }
+        if step == start {
+            pair.start(random.within(1, zones))?;
+        }
+    }
+    pair.finish(random)?;
+    pair.end()
+}
+
+/// A site with its most cars, or nearly so, in stocks and on lines. Entries just fit or are refused with
+/// 21, also where the stocks alone would allow them; exits make room. In some lists one zone takes
+/// all entries, hears nobody and starts, so that its recording has the entries and not the exits.
+fn brimming(counts: &mut Counts, random: &mut Random) -> Result<(), Failure> {
+    let zones = random.within(2, 8);
+    let mut stocks: Vec<u16> = (0..zones).map(|_| random.within(0, 8_000) as u16).collect();
+    let others: u32 = stocks[1..].iter().map(|&stock| u32::from(stock)).sum();
+    let most = [0, 3, 300][random.below(3)];
+    stocks[0] = (65_535 - others - random.within(0, most)) as u16;
+    let edition = match random.below(4) {
+        0 => edition(random),
+        _ => EDITIONS[EDITIONS.len() - 1],
+    };
+    let mut pair = Pair::open(counts, random, edition, &stocks)?;
+    let entrance = random.chance(50).then(|| random.within(1, zones));
+    for _ in 0..random.within(5, 80) {
+        let (from, to) = two(random, zones);
+        let rest = 65_535 - pair.run.total() as u32;
+        let some = match random.below(4) {
+            0 => rest,
+            1 => rest + 1,
+            2 => random.within(0, 255),
+            _ => random.within(0, 3),
+        };
+        let some = some.min(255) as u8;
+        match random.below(5) {
+            0 | 1 => pair.enter(entrance.unwrap_or(from), some)?,
+            2 if entrance != Some(from) => pair.leave(from, random.within(0, 255) as u8)?,
+            3 if entrance != Some(to) => pair.receive(from, to)?,
+            _ => pair.send(from, to, random.within(0, 255) as u8)?,
+        };
+        if entrance.is_none() && random.chance(4) {
+            pair.start(from)?;
+        }
+    }
+    pair.start(entrance.unwrap_or(1))?;
+    pair.finish(random)?;
     pair.end()
 }

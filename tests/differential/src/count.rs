@@ -1,7 +1,7 @@
 //! Counts of what was compared, and the floors below which a run of the program fails.
 
 use crate::compare::{Answer, Difference};
-use second::edition::EDITIONS;
+use second::edition::{has_gates, EDITIONS};
 
 /// The calls of the library.
 #[derive(Clone, Copy, Debug, PartialEq, Eq)]
@@ -10,6 +10,8 @@ pub enum Entry {
     SiteSend,
     SiteReceive,
     SiteStart,
+    SiteEnter,
+    SiteLeave,
     SiteRecord,
     JournalWrite,
     JournalRead,
@@ -19,54 +21,68 @@ pub enum Entry {
     ZoneReceive,
     ZoneRequest,
     ZoneStart,
+    ZoneEnter,
+    ZoneLeave,
     ZoneRequests,
     ZoneNext,
 }
 
-/// A call with the numbers that docs/RULES.md lets it give under an edition that is defined, and under
-/// any other edition or without one.
-pub type Numbers = (&'static str, &'static [u8], &'static [u8]);
+/// A call with the numbers that docs/RULES.md lets it give under each heading.
+pub type Numbers = (&'static str, [&'static [u8]; HEADINGS.len()]);
+
+/// A call that gives some numbers under every edition that is defined, and others under any other
+/// edition or without one.
+const fn call(name: &'static str, known: &'static [u8], other: &'static [u8]) -> Numbers {
+    (name, [known, known, known, other])
+}
+
+/// A gate call: an edition before the third one has no gates.
+const fn gate(name: &'static str, known: &'static [u8]) -> Numbers {
+    (name, [&[1, 15], &[1, 15], known, &[1]])
+}
 
 /// Each call, in the order of `Entry`.
-pub const ENTRIES: [Numbers; 15] = [
-    ("cut_site_open", &[0, 2, 3, 4], &[15]),
-    ("cut_site_send", &[0, 1, 5, 6, 7, 8], &[1]),
-    ("cut_site_receive", &[0, 1, 5, 6, 9, 10], &[1]),
-    ("cut_site_start", &[0, 1, 5, 6, 11, 10], &[1]),
-    ("cut_site_record", &[0, 1, 12, 13, 14], &[1]),
-    ("cut_journal_write", &[0, 1, 14], &[1]),
-    ("cut_journal_read", &[0, 16, 17, 4, 18, 19], &[15]),
-    (
+pub const ENTRIES: [Numbers; 19] = [
+    call("cut_site_open", &[0, 2, 3, 4], &[15]),
+    call("cut_site_send", &[0, 1, 5, 6, 7, 8], &[1]),
+    call("cut_site_receive", &[0, 1, 5, 6, 9, 10], &[1]),
+    call("cut_site_start", &[0, 1, 5, 6, 11, 10], &[1]),
+    gate("cut_site_enter", &[0, 1, 5, 6, 21]),
+    gate("cut_site_leave", &[0, 1, 5, 6, 7]),
+    call("cut_site_record", &[0, 1, 12, 13, 14], &[1]),
+    call("cut_journal_write", &[0, 1, 14], &[1]),
+    call("cut_journal_read", &[0, 16, 17, 4, 18, 19], &[15]),
+    call(
         "cut_journal_record",
         &[0, 16, 17, 4, 18, 19, 12, 13, 14],
         &[15],
     ),
-    ("cut_zone_open", &[0, 2, 5], &[15]),
-    ("cut_zone_send", &[0, 1, 5, 6, 7], &[1]),
-    ("cut_zone_receive", &[0, 1, 5, 6, 20], &[1]),
-    ("cut_zone_request", &[0, 1, 5], &[1]),
-    ("cut_zone_start", &[0, 1, 11], &[1]),
-    ("cut_zone_requests", &[], &[0]),
-    ("cut_zone_next", &[], &[0]),
+    call("cut_zone_open", &[0, 2, 5], &[15]),
+    call("cut_zone_send", &[0, 1, 5, 6, 7], &[1]),
+    call("cut_zone_receive", &[0, 1, 5, 6, 20], &[1]),
+    call("cut_zone_request", &[0, 1, 5], &[1]),
+    call("cut_zone_start", &[0, 1, 11], &[1]),
+    gate("cut_zone_enter", &[0, 1, 6, 20]),
+    gate("cut_zone_leave", &[0, 1, 6, 7]),
+    call("cut_zone_requests", &[], &[0]),
+    call("cut_zone_next", &[], &[0]),
 ];
 
+/// The highest number that a call gives.
+const HIGHEST: usize = 21;
+
 /// What is counted apart: each edition that is defined, and everything else.
-pub const HEADINGS: [&str; EDITIONS.len() + 1] =
-    ["edition 1", "edition 2", "another or no edition"];
+pub const HEADINGS: [&str; EDITIONS.len() + 1] = [
+    "edition 1",
+    "edition 2",
+    "edition 3",
+    "another or no edition",
+];
 
 /// The place of an edition among the headings.
 fn heading(edition: u32) -> usize {
     let place = EDITIONS.iter().position(|&known| known == edition);
     place.unwrap_or(EDITIONS.len())
-}
-
-/// The numbers of a call under a heading.
-fn numbers_of(entry: Numbers, heading: usize) -> &'static [u8] {
-    if heading < EDITIONS.len() {
-        entry.1
-    } else {
-        entry.2
-    }
 }
 
 /// A hand-over of 0 cars that was taken.
@@ -99,10 +115,104 @@ fn check_name(kind: usize) -> String {
     )
 }
 
+/// A gate call that was accepted.
+#[derive(Clone, Copy, Debug)]
+pub struct Gate {
+    /// Whether it was made on a zone of the zone part, not on one of a site.
+    pub alone: bool,
+    /// Whether cars drove out, not in.
+    pub out: bool,
+    /// Whether there were 0 cars.
+    pub empty: bool,
+    /// Whether its zone had a mark.
+    pub marked: bool,
+}
+
+/// How many kinds of such calls there are.
+pub const GATES: usize = 16;
+
+impl Gate {
+    fn kind(self) -> usize {
+        let bits = [self.alone, self.out, self.empty, self.marked];
+        bits.iter()
+            .fold(0, |kind, &bit| 2 * kind + usize::from(bit))
+    }
+}
+
+/// The name of a kind.
+fn gate_name(kind: usize) -> String {
+    let part = ["site", "zone part"][kind / 8];
+    let way = ["an entry", "an exit"][kind / 4 % 2];
+    let cars = ["cars", "0 cars"][kind / 2 % 2];
+    let mark = ["an unmarked", "a marked"][kind % 2];
+    format!("{way} of {cars} at {mark} zone, {part}")
+}
+
+/// The directions that no gate has, by the second field of their records.
+pub const WRONG_WAYS: std::ops::Range<usize> = 2..8;
+
+/// What was met of gates.
+#[derive(Clone, Debug, Default, PartialEq, Eq)]
+pub struct Gates {
+    /// Accepted calls by kind.
+    pub accepted: [u64; GATES],
+    /// Entries refused with 21 that the stocks alone would have allowed: the cars on lines count.
+    pub lines: u64,
+    /// Readings refused with 18 for a record of kind 3, by edition; in one that has gates, for its
+    /// direction.
+    pub malformed: [u64; EDITIONS.len()],
+    /// The last of these by direction.
+    pub wrong_ways: [u64; WRONG_WAYS.end],
+    /// Readings refused with 19 at a record of kind 3.
+    pub refused: u64,
+    /// Complete recordings, each of a list of its own, whose total is not that of the opening.
+    pub other_totals: u64,
+    /// The same above 65,535.
+    pub high_totals: u64,
+}
+
+impl Gates {
+    /// What must have been met, by name, with the times and how often it is needed.
+    fn others(&self) -> Vec<(String, u64, u64)> {
+        let mut others = Vec::new();
+        let mut other = |name: String, times| others.push((name, times, LEAST_GATES));
+        for (kind, &times) in self.accepted.iter().enumerate() {
+            other(gate_name(kind), times);
+        }
+        other(
+            "entries refused with 21 for cars on lines".to_string(),
+            self.lines,
+        );
+        for (&edition, &times) in EDITIONS.iter().zip(&self.malformed) {
+            let name = format!("readings refused with 18 for kind 3, edition {edition}");
+            other(name, times);
+        }
+        for way in WRONG_WAYS {
+            let name = format!("readings refused with 18 for direction {way}");
+            other(name, self.wrong_ways[way]);
+        }
+        other(
+            "readings refused with 19 at a gate".to_string(),
+            self.refused,
+        );
+        other(
+            "complete recordings with another total than the opening".to_string(),
+            self.other_totals,
+        );
+        other(
+            "complete recordings with a total above 65,535".to_string(),
+            self.high_totals,
+        );
+        others
+    }
+}
+
 /// How often each number of each call must be met under each heading.
 pub const LEAST_ANSWERS: u64 = 100;
 /// How often each kind of hand-over of 0 cars must be taken in each edition.
 pub const LEAST_CHECKS: u64 = 100;
+/// How often each of what is counted of gates must be met.
+pub const LEAST_GATES: u64 = 100;
 /// How many complete recordings of each edition must have a provisional mark turned firm.
 pub const LEAST_TURNED: u64 = 1_000;
 /// How many complete recordings of each edition must have a line above 16.
@@ -148,9 +258,10 @@ fn found<A: Answer>(entry: Entry, difference: Difference, expected: &A, proved: 
 #[derive(Clone, Debug, Default)]
 pub struct Counts {
     /// Times by heading, then by call, then by refusal number.
-    pub times: [[[u64; 21]; ENTRIES.len()]; HEADINGS.len()],
+    pub times: [[[u64; HIGHEST + 1]; ENTRIES.len()]; HEADINGS.len()],
     /// Hand-overs of 0 cars taken, by edition, then by kind.
     pub checks: [[u64; CHECKS]; EDITIONS.len()],
+    pub gates: Gates,
     /// By edition: complete recordings, each of a list of its own, with a provisional mark turned firm.
     pub turned: [u64; EDITIONS.len()],
     /// By edition: complete recordings, each of a list of its own, with a recorded line above 16.
@@ -188,7 +299,7 @@ impl Counts {
     /// Counts a number; one that the call cannot give is a difference, whoever gave it.
     fn number(&mut self, entry: Entry, edition: u32, refusal: u8) -> Result<(), Difference> {
         let (heading, call) = (heading(edition), ENTRIES[entry as usize]);
-        let numbers = numbers_of(call, heading);
+        let numbers = call.1[heading];
         if !numbers.contains(&refusal) {
             return Err(Difference {
                 field: format!("refusal, which both give, of {}", call.0),
@@ -205,11 +316,36 @@ impl Counts {
         self.checks[heading(check.edition)][check.kind()] += 1;
     }
 
-    /// Counts a complete recording.
-    pub fn complete(&mut self, edition: u32, turned: bool, above: bool) {
+    /// Counts a gate call that was accepted.
+    pub fn gate(&mut self, gate: Gate) {
+        self.gates.accepted[gate.kind()] += 1;
+    }
+
+    /// Counts a reading that a record of kind 3 made end.
+    pub fn gate_record(&mut self, edition: u32, word: u16, refusal: u32) {
+        let place = heading(edition);
+        if word < 3 << 14 || place >= EDITIONS.len() {
+            return;
+        }
+        match refusal {
+            18 => {
+                self.gates.malformed[place] += 1;
+                if has_gates(edition) {
+                    self.gates.wrong_ways[usize::from(word >> 8 & 7)] += 1;
+                }
+            }
+            19 => self.gates.refused += 1,
+            _ => (),
+        }
+    }
+
+    /// Counts a complete recording with its total and that of its opening.
+    pub fn complete(&mut self, edition: u32, turned: bool, above: bool, totals: (u32, u32)) {
         let place = heading(edition);
         self.turned[place] += u64::from(turned);
         self.above[place] += u64::from(above);
+        self.gates.other_totals += u64::from(totals.0 != totals.1);
+        self.gates.high_totals += u64::from(totals.0 > 65_535);
     }
 
     /// The floors that were not reached, each with what was counted.
@@ -224,7 +360,7 @@ impl Counts {
         };
         for (place, heading) in HEADINGS.iter().enumerate() {
             for (times, call) in self.times[place].iter().zip(ENTRIES) {
-                for &number in numbers_of(call, place) {
+                for &number in call.1[place] {
                     let name = format!("{} answering {number}, {heading}", call.0);
                     floor(name, times[usize::from(number)], LEAST_ANSWERS);
                 }
@@ -249,6 +385,7 @@ impl Counts {
             let name = format!("complete recordings with a line above 16, {heading}");
             others.push((name, self.above[place], LEAST_ABOVE));
         }
+        others.extend(self.gates.others());
         others
     }
 
@@ -257,7 +394,7 @@ impl Counts {
         for (place, heading) in HEADINGS.iter().enumerate() {
             lines += &format!("{heading:22} number: times\n");
             for (times, call) in self.times[place].iter().zip(ENTRIES) {
-                let cells: Vec<String> = numbers_of(call, place)
+                let cells: Vec<String> = call.1[place]
                     .iter()
                     .map(|&number| format!("{number}: {}", times[usize::from(number)]))
                     .collect();

@@ -6,14 +6,17 @@ use crate::ffi;
 use crate::pair;
 use crate::text;
 use second::generate::{journal_of, KINDS};
-use second::journal::{self, words_of};
-use second::random::{edition, Random};
+use second::journal::{self, words_of, Reading};
+use second::random::{cars, edition, Random};
 
 /// A generated journal, then the same with more and more damage.
 pub fn trial(counts: &mut Counts, random: &mut Random, index: usize) -> Result<(), Failure> {
     let edition = edition(random);
     let mut bytes = journal_of(random, edition, index % KINDS);
     check(counts, random, &bytes)?;
+    if let Some(gated) = with_gate(random, &bytes) {
+        check(counts, random, &gated)?;
+    }
     for _ in 0..random.within(1, 4) {
         spoil(random, &mut bytes);
         check(counts, random, &bytes)?;
@@ -36,6 +39,9 @@ fn read(counts: &mut Counts, random: &mut Random, bytes: &[u8]) -> Result<(), Fo
     let proved = ffi::cut_journal_read(bytes);
     let expected = expect::reading(&reading);
     counts.same(Entry::JournalRead, edition, &expected, &proved)?;
+    if let Some(word) = refused_record(bytes, &reading) {
+        counts.gate_record(edition, word, reading.refusal);
+    }
     let recording = expect::recorded(&reading);
     for lent in recording.lents(random) {
         let expected = recording.output(&lent);
@@ -48,10 +54,50 @@ fn read(counts: &mut Counts, random: &mut Random, bytes: &[u8]) -> Result<(), Fo
             refusal: 0,
             position: 0,
             bytes: bytes.to_vec(),
+            total: 0,
         };
         pair::writers(counts, random, &proved.run, &recording, &journal)?;
     }
     Ok(())
+}
+
+/// The record that made a reading end, with 18 or 19.
+fn refused_record(bytes: &[u8], reading: &Reading) -> Option<u16> {
+    if !matches!(reading.refusal, 18 | 19) {
+        return None;
+    }
+    let (first, _) = records(bytes)?;
+    words_of(&bytes[first..]).get(reading.position).copied()
+}
+
+/// The journal with one record more, of a gate in any direction, that any byte may be wrong in. Nothing
+/// where header and length do not agree or there is no room.
+fn with_gate(random: &mut Random, bytes: &[u8]) -> Option<Vec<u8>> {
+    let (first, number) = records(bytes).filter(|&(_, number)| number < 1_000)?;
+    let zones = (first as u32 - 2) / 2;
+    let zone = match random.below(8) {
+        0 => random.within(0, 7),
+        _ => random.within(0, zones - 1),
+    };
+    let way = match random.below(4) {
+        0 => random.within(0, 1),
+        _ => random.within(2, 7),
+    };
+    let word = (3 << 14 | zone << 11 | way << 8) as u16 | u16::from(cars(random));
+    let place = match random.below(2) {
+        0 => first,
+        _ => first + 2 * random.below(number + 1),
+    };
+    let mut gated = bytes.to_vec();
+    gated.splice(place..place, word.to_be_bytes());
+    set_number(&mut gated, number + 1);
+    Some(gated)
+}
+
+/// Puts a number of records into the header.
+fn set_number(bytes: &mut [u8], number: usize) {
+    bytes[0] = bytes[0] & 0xFC | (number >> 8) as u8;
+    bytes[1] = number as u8;
 }
 
 /// Bytes without any order, some behind a header and a length that fit.
@@ -135,6 +181,5 @@ fn spoil_records(random: &mut Random, bytes: &mut Vec<u8>, kind: usize) {
         }
         _ => bytes[here..here + 2].fill(random.within(0, 255) as u8),
     }
-    bytes[0] = bytes[0] & 0xFC | (words >> 8) as u8;
-    bytes[1] = words as u8;
+    set_number(bytes, words);
 }

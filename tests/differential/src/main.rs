@@ -16,7 +16,7 @@ type Trial = fn(&mut Counts, &mut Random, usize) -> Result<(), Failure>;
 const KINDS: [(&str, usize, Trial); 5] = [
     ("every zone argument and edition", 1, every),
     ("zones", 20_000, zones::trial),
-    ("lists of calls", 12_000, calls::trial),
+    ("lists of calls", 15_000, calls::trial),
     ("journals", 6_000, journals::trial),
     ("run states", 4_000, states::trial),
 ];

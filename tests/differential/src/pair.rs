@@ -1,7 +1,7 @@
 //! One run kept by both implementations, compared after every call.
 
 use crate::compare::{one, Difference};
-use crate::count::{Check, Counts, Entry, Failure, Found};
+use crate::count::{Check, Counts, Entry, Failure, Found, Gate};
 use crate::expect::{self, Made};
 use crate::ffi::{self, PlainAnswer, PlainReading, PlainRun};
 use crate::header;
@@ -11,7 +11,7 @@ use second::demand3::{self, Lines, Seen};
 use second::edition::fewest;
 use second::journal::decode;
 use second::random::{finish, Random};
-use second::site::{Call, Item, Run};
+use second::site::{sum, Call, Direction, Item, Run};
 use second::zone::{Body, Mark};
 
 pub struct Pair<'a> {
@@ -81,6 +81,36 @@ fn entry(call: Call) -> Entry {
         Call::HandOver { .. } => Entry::SiteSend,
         Call::Receipt { .. } => Entry::SiteReceive,
         Call::Start { .. } => Entry::SiteStart,
+        Call::Gate { direction, .. } => match direction {
+            Direction::In => Entry::SiteEnter,
+            Direction::Out => Entry::SiteLeave,
+        },
+    }
+}
+
+/// Counts what a gate call on a struct met.
+fn count_gate(counts: &mut Counts, p: &PlainRun, made: Call, refusal: u8) {
+    let Call::Gate {
+        direction,
+        zone,
+        cars,
+    } = made
+    else {
+        return;
+    };
+    let zones = p.zones.get(..usize::from(p.count)).unwrap_or(&[]);
+    match refusal {
+        0 => counts.gate(Gate {
+            alone: false,
+            out: direction == Direction::Out,
+            empty: cars == 0,
+            marked: zones[zone as usize - 1].mark != 0,
+        }),
+        21 => {
+            let stocks: u32 = zones.iter().map(|zone| u32::from(zone.stock)).sum();
+            counts.gates.lines += u64::from(stocks + u32::from(cars) <= 65_535);
+        }
+        _ => (),
     }
 }
 
@@ -94,6 +124,7 @@ pub fn call(
     let proved = expect::proved(p, call);
     counts.same(entry(call), u32::from(p.edition), expected, &proved)?;
     counts.equal(entry(call), expected, &expect::by_header(p, call))?;
+    count_gate(counts, p, call, proved.refusal);
     Ok(proved)
 }
 
@@ -211,13 +242,30 @@ impl<'a> Pair<'a> {
         self.call(Call::Start { zone })
     }
 
+    pub fn enter(&mut self, zone: u32, cars: u8) -> Result<u32, Failure> {
+        self.gate(Direction::In, zone, cars)
+    }
+
+    pub fn leave(&mut self, zone: u32, cars: u8) -> Result<u32, Failure> {
+        self.gate(Direction::Out, zone, cars)
+    }
+
+    pub fn gate(&mut self, direction: Direction, zone: u32, cars: u8) -> Result<u32, Failure> {
+        self.call(Call::Gate {
+            direction,
+            zone,
+            cars,
+        })
+    }
+
     /// Receives until no line holds a request, or no receipt is accepted.
     pub fn finish(&mut self, random: &mut Random) -> Result<(), Failure> {
         let mut ahead = self.run.clone();
         finish(random, &mut ahead);
         let records = self.run.records.len();
         for &word in &ahead.records[records..] {
-            self.call(decode(word).expect("a record of a run is well formed"))?;
+            let call = decode(self.run.edition, word);
+            self.call(call.expect("a record of a run is well formed"))?;
         }
         Ok(())
     }
@@ -268,6 +316,7 @@ impl<'a> Pair<'a> {
             calls: self.calls.clone(),
             answer: u32::from(answer.refusal),
             bytes: bytes[..answer.written].to_vec(),
+            total: answer.total,
             stocks: self.plain.zones[..zones]
                 .iter()
                 .map(|zone| u64::from(zone.stock))
@@ -293,7 +342,8 @@ impl<'a> Pair<'a> {
         let recorded = demand3::parse(edition, self.opening.len(), &recording.bytes)
             .expect("demand 3 has looked at the recording");
         let above = recorded.lines.iter().flatten().any(|line| line.len() > 16);
-        self.counts.complete(edition, self.turned, above);
+        let totals = (recording.total, sum(&self.opening) as u32);
+        self.counts.complete(edition, self.turned, above, totals);
         Ok(())
     }
 }

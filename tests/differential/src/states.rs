@@ -9,7 +9,7 @@ use crate::plain::{self, place};
 use crate::text;
 use second::generate::{accepted, SHAPES};
 use second::journal;
-use second::random::{edition, Random};
+use second::random::{direction, edition, Random};
 use second::site::{Call, PLACES};
 
 /// How many states are made of one reachable run, whose making takes long.
@@ -61,13 +61,13 @@ fn check(counts: &mut Counts, random: &mut Random, p: &PlainRun) -> Result<(), F
     let failed = |p: &PlainRun, call: String, found: Found| Failure::new(text::run(p), call, found);
     writers(counts, random, p).map_err(|found| failed(p, "the writers".to_string(), found))?;
     let mut next = *p;
-    for step in 0..12 {
+    for step in 0..KINDS * 3 {
         let made = likely(random, &next, step);
         let expected = expect::answer(&next, made);
         let answer = pair::call(counts, &next, made, &expected)
             .map_err(|found| failed(&next, text::call(made), found))?;
-        if answer.refusal == 1 && step >= 3 {
-            // An unsound state stays as it is, so three calls are enough.
+        if answer.refusal == 1 && step + 1 >= KINDS {
+            // An unsound state stays as it is, so one call of each kind is enough.
             return Ok(());
         }
         next = answer.run;
@@ -86,6 +86,9 @@ fn writers(counts: &mut Counts, random: &mut Random, p: &PlainRun) -> Result<(),
     pair::writers(counts, random, p, &recording, &journal)
 }
 
+/// How many kinds of calls take turns.
+const KINDS: usize = 4;
+
 /// A call that is mostly asked about more than its zones: the kinds take turns.
 fn likely(random: &mut Random, p: &PlainRun, step: usize) -> Call {
     let zones = u32::from(p.count.clamp(2, 8));
@@ -94,18 +97,20 @@ fn likely(random: &mut Random, p: &PlainRun, step: usize) -> Call {
     }
     let from = random.within(1, zones);
     let to = (from - 1 + random.within(1, zones - 1)) % zones + 1;
-    match step % 3 {
-        0 => Call::HandOver {
-            from,
-            to,
-            cars: if random.chance(50) {
-                random.within(0, 3) as u8
-            } else {
-                random.within(0, 255) as u8
-            },
-        },
+    let cars = if random.chance(50) {
+        random.within(0, 3) as u8
+    } else {
+        random.within(0, 255) as u8
+    };
+    match step % KINDS {
+        0 => Call::HandOver { from, to, cars },
         1 => Call::Receipt { from, to },
-        _ => Call::Start { zone: from },
+        2 => Call::Start { zone: from },
+        _ => Call::Gate {
+            direction: direction(random),
+            zone: from,
+            cars,
+        },
     }
 }
 
@@ -262,7 +267,7 @@ fn damage(random: &mut Random, p: &mut PlainRun) {
         5 => to_the_brim(random, p),
         6..=12 => damage_zone(random, p),
         13..=17 => damage_line(random, p),
-        18 => p.edition = [0, 1, 2, 3, 7, byte(random)][random.below(6)],
+        18 => p.edition = [0, 1, 2, 3, 4, 7, byte(random)][random.below(7)],
         _ => damage_journal(random, p),
     }
 }

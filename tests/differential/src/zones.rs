@@ -1,7 +1,7 @@
 //! The zone part: zones with any values, and lists of calls on one zone.
 
 use crate::compare::Answer;
-use crate::count::{Check, Counts, Entry, Failure, Found};
+use crate::count::{Check, Counts, Entry, Failure, Found, Gate};
 use crate::expect::number;
 use crate::ffi::{self, PlainOpening, PlainSaved, PlainStep, PlainZone};
 use crate::plain;
@@ -15,6 +15,8 @@ enum Step {
     Receive { from: u8, cars: u8, flag: u8 },
     Request { set: u8 },
     Start,
+    Enter { cars: u8 },
+    Leave { cars: u8 },
 }
 
 impl Step {
@@ -24,6 +26,8 @@ impl Step {
             Step::Receive { .. } => Entry::ZoneReceive,
             Step::Request { .. } => Entry::ZoneRequest,
             Step::Start => Entry::ZoneStart,
+            Step::Enter { .. } => Entry::ZoneEnter,
+            Step::Leave { .. } => Entry::ZoneLeave,
         }
     }
 
@@ -33,6 +37,8 @@ impl Step {
             Step::Receive { from, cars, flag } => ffi::cut_zone_receive(p, from, cars, flag),
             Step::Request { set } => ffi::cut_zone_request(p, set),
             Step::Start => ffi::cut_zone_start(p),
+            Step::Enter { cars } => ffi::cut_zone_enter(p, cars),
+            Step::Leave { cars } => ffi::cut_zone_leave(p, cars),
         }
     }
 
@@ -44,6 +50,8 @@ impl Step {
             }
             Step::Request { set } => zone.take_request(set),
             Step::Start => zone.start(),
+            Step::Enter { cars } => zone.enter(cars),
+            Step::Leave { cars } => zone.leave(cars),
         }
     }
 
@@ -99,16 +107,33 @@ fn step(counts: &mut Counts, p: PlainZone, step: Step) -> Result<PlainZone, Foun
     let proved = step.proved(p);
     let edition = u32::from(p.edition);
     counts.same(step.entry(), edition, &step.expected(p), &proved)?;
-    if let (Step::Receive { cars: 0, flag, .. }, 0) = (step, proved.refusal) {
-        counts.check(Check {
-            edition,
-            alone: true,
-            flag: flag != 0,
-            marked: p.mark != 0,
-        });
+    if proved.refusal == 0 {
+        count(counts, p, step);
     }
     sets(counts, proved.to)?;
     Ok(proved.zone)
+}
+
+/// Counts what an accepted step was about.
+fn count(counts: &mut Counts, p: PlainZone, step: Step) {
+    let marked = p.mark != 0;
+    let gate = |cars: u8, out: bool| Gate {
+        alone: true,
+        out,
+        empty: cars == 0,
+        marked,
+    };
+    match step {
+        Step::Receive { cars: 0, flag, .. } => counts.check(Check {
+            edition: u32::from(p.edition),
+            alone: true,
+            flag: flag != 0,
+            marked,
+        }),
+        Step::Enter { cars } => counts.gate(gate(cars, false)),
+        Step::Leave { cars } => counts.gate(gate(cars, true)),
+        _ => (),
+    }
 }
 
 /// Compares the number of a set's zones and its lowest zone, which need no second implementation
@@ -221,7 +246,7 @@ fn other(random: &mut Random, p: &PlainZone) -> u8 {
 
 fn any_step(random: &mut Random, p: &PlainZone) -> Step {
     let everybody = ((1_u32 << p.count.min(8)) - 1) as u8;
-    match random.below(8) {
+    match random.below(10) {
         0..=2 => Step::Send {
             to: other(random, p),
             cars: cars(random),
@@ -237,6 +262,8 @@ fn any_step(random: &mut Random, p: &PlainZone) -> Step {
                 _ => byte(random) & everybody,
             },
         },
+        7 => Step::Enter { cars: cars(random) },
+        8 => Step::Leave { cars: cars(random) },
         _ => Step::Start,
     }
 }
@@ -283,7 +310,7 @@ pub fn trial(counts: &mut Counts, random: &mut Random, index: usize) -> Result<(
 }
 
 /// Every count with every number, every edition with every count and with every number, every set,
-/// and every mark kind and every edition with every flag byte.
+/// and every mark kind and every edition with every flag byte and every number of cars at a gate.
 pub fn every(counts: &mut Counts, random: &mut Random) -> Result<(), Failure> {
     for first in 0..=255 {
         let counted = sets(counts, first);
@@ -304,6 +331,8 @@ pub fn every(counts: &mut Counts, random: &mut Random) -> Result<(), Failure> {
                 };
                 single(counts, p, made)?;
                 single(counts, p, any_step(random, &p))?;
+                single(counts, p, Step::Enter { cars: second })?;
+                single(counts, p, Step::Leave { cars: second })?;
             }
         }
     }

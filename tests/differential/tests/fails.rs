@@ -2,15 +2,16 @@
 
 use differential::compare::{Answer, Output};
 use differential::count::{
-    Check, Counts, Entry, CHECKS, ENTRIES, HEADINGS, LEAST_ABOVE, LEAST_ANSWERS, LEAST_CHECKS,
-    LEAST_TURNED,
+    Check, Counts, Entry, Gate, Gates, CHECKS, ENTRIES, GATES, HEADINGS, LEAST_ABOVE,
+    LEAST_ANSWERS, LEAST_CHECKS, LEAST_GATES, LEAST_TURNED, WRONG_WAYS,
 };
 use differential::expect::{self, Made};
 use differential::ffi::{self, PlainAnswer, PlainReading, PlainRun, PlainStep};
 use differential::pair;
 use differential::plain::place;
+use second::edition::EDITIONS;
 use second::generate::{bytes_of, case_b};
-use second::site::Call;
+use second::site::{Call, Direction};
 
 const SEND: Call = Call::HandOver {
     from: 1,
@@ -118,6 +119,7 @@ fn a_wrong_answer_of_a_writer_is_found() {
     assert_eq!(changed(last + 6), format!("bytes[{}]", last + 6));
     let field = |change: fn(&mut Output)| field(&right, change);
     assert_eq!(field(|output| output.answer.written -= 1), "written");
+    assert_eq!(field(|output| output.answer.total += 65_536), "total");
     assert_eq!(field(|output| output.answer.position = 1), "position");
     assert_eq!(field(|output| output.answer.refusal = 14), "refusal");
     assert_eq!(
@@ -144,6 +146,106 @@ fn a_wrong_answer_of_a_zone_is_found() {
     assert_eq!(field(|step| step.zone.mark = 1), "zone.mark");
     assert_eq!(field(|step| step.zone.saved.events = 0), "zone.saved");
     assert_eq!(field(|step| step.zone.number = 2), "zone.number");
+}
+
+/// A run of edition 3 with 65,500 cars in stocks and 30 on a line, as the proved code makes it.
+fn brimming() -> PlainRun {
+    let mut run = ffi::cut_site_open(3, 2, &[65_530, 0]).run;
+    assert_eq!(ffi::cut_site_send(&mut run, 1, 2, 30), 0);
+    run
+}
+
+fn gate(direction: Direction, zone: u32, cars: u8) -> Call {
+    Call::Gate {
+        direction,
+        zone,
+        cars,
+    }
+}
+
+/// A gate call and a gate of the zone part against wrong expectations.
+#[test]
+fn a_wrong_answer_at_a_gate_is_found() {
+    let right = expect::proved(&brimming(), gate(Direction::In, 2, 5));
+    assert_eq!((right.refusal, right.run.zones[1].stock), (0, 5));
+    let changed = |change: fn(&mut PlainRun)| field(&right, |answer| change(&mut answer.run));
+    assert_eq!(changed(|run| run.zones[1].stock = 4), "run.zones[1].stock");
+    assert_eq!(
+        changed(|run| run.zones[1].events = 0),
+        "run.zones[1].events"
+    );
+    assert_eq!(changed(|run| run.journal[1] |= 256), "run.journal[1]");
+    let zone = ffi::cut_zone_open(3, 2, 1, 10).zone;
+    let right = ffi::cut_zone_leave(ffi::cut_zone_enter(zone, 5).zone, 2);
+    assert_eq!((right.zone.stock, right.zone.events), (13, 2));
+    assert_eq!(field(&right, |step| step.zone.events = 1), "zone.events");
+}
+
+/// What is counted of gate calls on a site: the accepted ones by kind, and the entries that are refused
+/// for cars on lines alone.
+#[test]
+fn gate_calls_are_counted() {
+    let mut counts = Counts::default();
+    let run = brimming();
+    let mut made = |call: Call| {
+        let expected = expect::answer(&run, call);
+        let answer = pair::call(&mut counts, &run, call, &expected);
+        (answer.expect("both agree").refusal, counts.gates.clone())
+    };
+    let (refusal, gates) = made(gate(Direction::In, 2, 0));
+    assert_eq!((refusal, gates.accepted[2], gates.lines), (0, 1, 0));
+    let (refusal, gates) = made(gate(Direction::Out, 1, 3));
+    assert_eq!((refusal, gates.accepted[4], gates.lines), (0, 1, 0));
+    // 65,500 + 6 cars would be on the zones, and 30 are on the line.
+    let (refusal, gates) = made(gate(Direction::In, 2, 6));
+    assert_eq!((refusal, gates.lines), (21, 1));
+    let (refusal, gates) = made(gate(Direction::In, 2, 200));
+    assert_eq!((refusal, gates.lines), (21, 1));
+    assert_eq!(made(gate(Direction::In, 3, 1)).0, 5);
+    assert_eq!(made(gate(Direction::Out, 2, 1)).0, 7);
+    counts.gate(Gate {
+        alone: true,
+        out: true,
+        empty: true,
+        marked: true,
+    });
+    assert_eq!(counts.gates.accepted[GATES - 1], 1);
+    assert_eq!(counts.gates.accepted.iter().sum::<u64>(), 3);
+}
+
+/// What is counted of records of kind 3 that make a reading end.
+#[test]
+fn gate_records_are_counted() {
+    let mut counts = Counts::default();
+    for (edition, word, refusal) in [
+        (1, 0xC000, 18),
+        (2, 0xC100, 18),
+        (3, 0xC700, 18),
+        (3, 0xC100, 19),
+        // No record of a gate, and no known edition.
+        (3, 0xBFFF, 18),
+        (4, 0xC000, 18),
+    ] {
+        counts.gate_record(edition, word, refusal);
+    }
+    let mut expected = Gates {
+        malformed: [1; EDITIONS.len()],
+        refused: 1,
+        ..Gates::default()
+    };
+    expected.wrong_ways[7] = 1;
+    assert_eq!(counts.gates, expected);
+}
+
+/// What is counted of the totals of complete recordings.
+#[test]
+fn totals_are_counted() {
+    let mut counts = Counts::default();
+    for total in [60, 53, 65_536] {
+        counts.complete(3, false, false, (total, 60));
+    }
+    let gates = &counts.gates;
+    assert_eq!((gates.other_totals, gates.high_totals), (2, 1));
 }
 
 /// A whole comparison of a call fails when anything else is expected.
@@ -180,23 +282,37 @@ fn a_number_outside_the_list_of_a_call_is_found() {
     };
     assert!(counts.same(Entry::SiteReceive, 2, &answer, &answer).is_ok());
     assert!(counts
-        .same(Entry::SiteReceive, 3, &answer, &answer)
+        .same(Entry::SiteReceive, 4, &answer, &answer)
         .is_err());
     assert_eq!(counts.times[1][Entry::SiteReceive as usize][5], 1);
-    assert_eq!(counts.times[2], Counts::default().times[2]);
+    assert_eq!(counts.times[3], Counts::default().times[3]);
+    // An edition without gates gives 15 before 5.
+    assert!(counts.same(Entry::SiteEnter, 3, &answer, &answer).is_ok());
+    assert!(counts.same(Entry::SiteEnter, 2, &answer, &answer).is_err());
 }
 
 #[test]
 fn a_missed_floor_is_reported() {
-    let known: usize = ENTRIES.iter().map(|(_, known, _)| known.len()).sum();
-    let other: usize = ENTRIES.iter().map(|(_, _, other)| other.len()).sum();
+    let numbers = ENTRIES.iter().flat_map(|(_, numbers)| numbers);
+    let numbers: usize = numbers.map(|numbers| numbers.len()).sum();
+    let editions = EDITIONS.len();
+    let gates = GATES + 1 + editions + WRONG_WAYS.len() + 1 + 2;
     let missed = Counts::default().missed().len();
-    assert_eq!(missed, 2 * known + other + 2 * (CHECKS + 2));
+    assert_eq!(missed, numbers + editions * (CHECKS + 2) + gates);
     let enough = Counts {
-        times: [[[LEAST_ANSWERS; 21]; ENTRIES.len()]; HEADINGS.len()],
-        checks: [[LEAST_CHECKS; CHECKS]; 2],
-        turned: [LEAST_TURNED; 2],
-        above: [LEAST_ABOVE; 2],
+        times: [[[LEAST_ANSWERS; 22]; ENTRIES.len()]; HEADINGS.len()],
+        checks: [[LEAST_CHECKS; CHECKS]; 3],
+        gates: Gates {
+            accepted: [LEAST_GATES; GATES],
+            lines: LEAST_GATES,
+            malformed: [LEAST_GATES; 3],
+            wrong_ways: [LEAST_GATES; WRONG_WAYS.end],
+            refused: LEAST_GATES,
+            other_totals: LEAST_GATES,
+            high_totals: LEAST_GATES,
+        },
+        turned: [LEAST_TURNED; 3],
+        above: [LEAST_ABOVE; 3],
         comparisons: 0,
     };
     assert_eq!(enough.missed(), Vec::<String>::new());
@@ -209,8 +325,23 @@ fn a_missed_floor_is_reported() {
     };
     let start = missed(|counts| counts.times[0][Entry::SiteStart as usize][10] -= 1);
     assert!(start.contains("cut_site_start answering 10, edition 1: 99 times"));
-    let open = missed(|counts| counts.times[2][Entry::ZoneOpen as usize][15] -= 1);
+    let open = missed(|counts| counts.times[3][Entry::ZoneOpen as usize][15] -= 1);
     assert!(open.contains("cut_zone_open answering 15, another or no edition: 99 times"));
+    let enter = missed(|counts| counts.times[1][Entry::SiteEnter as usize][15] -= 1);
+    assert!(enter.contains("cut_site_enter answering 15, edition 2: 99 times"));
+    let enter = missed(|counts| counts.times[2][Entry::SiteEnter as usize][21] -= 1);
+    assert!(enter.contains("cut_site_enter answering 21, edition 3: 99 times"));
+    let leave = missed(|counts| counts.times[2][Entry::ZoneLeave as usize][7] -= 1);
+    assert!(leave.contains("cut_zone_leave answering 7, edition 3: 99 times"));
+    let exit = missed(|counts| counts.gates.accepted[6] -= 1);
+    assert!(exit.contains("an exit of 0 cars at an unmarked zone, site: 99 times"));
+    assert!(missed(|counts| counts.gates.lines -= 1).contains("21 for cars on lines: 99 times"));
+    let kind = missed(|counts| counts.gates.malformed[1] -= 1);
+    assert!(kind.contains("18 for kind 3, edition 2: 99 times"));
+    let way = missed(|counts| counts.gates.wrong_ways[7] -= 1);
+    assert!(way.contains("18 for direction 7: 99 times"));
+    let total = missed(|counts| counts.gates.high_totals -= 1);
+    assert!(total.contains("a total above 65,535: 99 times"));
     assert!(missed(|counts| counts.turned[1] -= 1).contains("turned firm, edition 2: 999 times"));
     assert!(missed(|counts| counts.above[0] -= 1).contains("above 16, edition 1: 99 times"));
     let check = missed(|counts| counts.checks[1][6] -= 1);
@@ -249,7 +380,8 @@ fn unused_storage_is_judged_by_the_contract() {
     assert_eq!(refusal(|run| run.records = 1_001), 1);
     assert_eq!(refusal(|run| run.count = 9), 1);
     assert_eq!(refusal(|run| run.edition = 0), 1);
-    assert_eq!(refusal(|run| run.edition = 3), 1);
+    assert_eq!(refusal(|run| run.edition = 4), 1);
+    assert_eq!(refusal(|run| run.edition = 3), 0);
     assert_eq!(refusal(|run| run.edition = 1), 0);
     assert_eq!(refusal(|run| run.lens[place(0, 1)] = 17), 1);
     assert_eq!(refusal(|run| run.lens[place(0, 1)] = 16), 8);

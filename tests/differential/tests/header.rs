@@ -127,11 +127,14 @@ fn the_site_has_the_same_fields() {
         let sum = add(add(0, refusal), position as u64);
         assert_eq!(reading.sum(), add_run(sum, &run));
         let written = usize::from(word(random));
+        let total = u32::from(word(random)) << 16 | u32::from(word(random));
         let answer = PlainWritten {
             refusal,
+            total,
             position,
             written,
         };
+        let sum = add(add(add(0, refusal), total), position as u64);
         assert_eq!(answer.sum(), add(sum, written as u64));
     }
 }

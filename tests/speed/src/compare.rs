@@ -7,8 +7,8 @@
 
 use crate::proved::{self, Numbers, Told};
 use second::generate::{self, accepted, journal_of, SHAPES};
-use second::random::{any_edition, drive, edition, stocks, Random};
-use second::site::Call;
+use second::random::{any_edition, direction, drive, edition, stocks, Random};
+use second::site::{Call, Direction};
 use speed::site::{self, Local, Run, Written, MOST_RECORDS, PLACES, RECORDING_BYTES};
 use speed::zone::{Answer, Saved, Zone};
 use std::array::from_fn;
@@ -19,11 +19,13 @@ use std::time::{Duration, Instant};
 type Outcome<T> = Result<T, String>;
 
 /// The calls with the numbers that they answer.
-const CALLS: [(&str, &[u8]); 13] = [
+const CALLS: [(&str, &[u8]); 17] = [
     ("open", &[0, 2, 3, 4, 15]),
     ("send", &[0, 1, 5, 6, 7, 8]),
     ("receive", &[0, 1, 5, 6, 9, 10]),
     ("start", &[0, 1, 5, 6, 10, 11]),
+    ("enter", &[0, 1, 5, 6, 15, 21]),
+    ("leave", &[0, 1, 5, 6, 7, 15]),
     ("record", &[0, 1, 12, 13, 14]),
     ("write", &[0, 1, 14]),
     ("read", &[0, 4, 15, 16, 17, 18, 19]),
@@ -33,6 +35,8 @@ const CALLS: [(&str, &[u8]); 13] = [
     ("zone-receive", &[0, 1, 5, 6, 20]),
     ("zone-request", &[0, 1, 5]),
     ("zone-start", &[0, 1, 11]),
+    ("zone-enter", &[0, 1, 6, 15, 20]),
+    ("zone-leave", &[0, 1, 6, 7, 15]),
 ];
 
 /// The texts of two answers from shortly before the first difference on.
@@ -48,7 +52,7 @@ fn apart<A: Debug>(proved: &A, peer: &A) -> String {
 const LEAST: u64 = 20;
 
 #[derive(Default)]
-struct Counts([[u64; 21]; CALLS.len()]);
+struct Counts([[u64; 22]; CALLS.len()]);
 
 impl Counts {
     /// Compares what both answer, and counts the number.
@@ -199,7 +203,7 @@ fn zones(counts: &mut Counts, random: &mut Random, _: usize) -> Outcome<()> {
     let set = if random.chance(50) { b } else { b & zone.deps };
     type Proved<'a> = &'a dyn Fn(&mut Zone, &mut Told) -> u8;
     type Peer<'a> = &'a dyn Fn(&mut Zone) -> Answer;
-    let steps: [(&str, Proved, Peer); 4] = [
+    let steps: [(&str, Proved, Peer); 6] = [
         (
             "zone-send",
             &|zone, told| proved::zone_send(zone, told, a, cars),
@@ -219,6 +223,16 @@ fn zones(counts: &mut Counts, random: &mut Random, _: usize) -> Outcome<()> {
             "zone-start",
             &|zone, told| proved::zone_start(zone, told),
             &|zone| zone.start(),
+        ),
+        (
+            "zone-enter",
+            &|zone, told| proved::zone_enter(zone, told, cars),
+            &|zone| zone.enter(cars),
+        ),
+        (
+            "zone-leave",
+            &|zone, told| proved::zone_leave(zone, told, cars),
+            &|zone| zone.leave(cars),
         ),
     ];
     for (name, proved, peer) in steps {
@@ -297,6 +311,20 @@ fn call(counts: &mut Counts, run: &Run, call: Call) -> Outcome<(u8, Run)> {
             let refusal = proved::start(&mut theirs, narrow(zone));
             ("start", refusal, mine.start(narrow(zone)))
         }
+        Call::Gate {
+            direction,
+            zone,
+            cars,
+        } => match direction {
+            Direction::In => {
+                let refusal = proved::enter(&mut theirs, narrow(zone), cars);
+                ("enter", refusal, mine.enter(narrow(zone), cars))
+            }
+            Direction::Out => {
+                let refusal = proved::leave(&mut theirs, narrow(zone), cars);
+                ("leave", refusal, mine.leave(narrow(zone), cars))
+            }
+        },
     };
     if (refusal != 0 && theirs != *run) || (answer != 0 && mine != *run) {
         return Err(format!("{name}: a refused call changes the run"));
@@ -575,17 +603,22 @@ fn likely(random: &mut Random, run: &Run, step: usize) -> Call {
         1..=3 => 1,
         _ => byte(random),
     };
-    match step % 3 {
+    match step % 4 {
         0 => Call::HandOver { from, to, cars },
         1 => Call::Receipt { from, to },
-        _ => Call::Start { zone: from },
+        2 => Call::Start { zone: from },
+        _ => Call::Gate {
+            direction: direction(random),
+            zone: from,
+            cars,
+        },
     }
 }
 
 fn check(counts: &mut Counts, random: &mut Random, run: &Run) -> Outcome<()> {
     writers(counts, random, run)?;
     let mut run = *run;
-    for step in 0..9 {
+    for step in 0..12 {
         let made = likely(random, &run, step);
         run = call(counts, &run, made)?.1;
     }

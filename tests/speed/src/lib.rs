@@ -15,17 +15,29 @@ pub mod zone;
 /// traffic. From the next one on, one of 0 cars is a line check.
 const FIRST_EDITION: u8 = 1;
 
-/// Questions 1 and 15, for the edition: it is 1 or 2.
+/// The first edition that has gates.
+const GATES_EDITION: u8 = 3;
+
+/// Questions 1 and 15, for the edition: it is 1 to 3.
 #[inline]
 fn is_edition(edition: u8) -> bool {
-    edition.wrapping_sub(FIRST_EDITION) < 2
+    edition.wrapping_sub(FIRST_EDITION) < 3
 }
 
-/// The fewest cars of a hand-over that is traffic, in a sound edition.
+/// The fewest cars of a hand-over that is traffic, in a sound edition: 0 in the first, 1 in the others.
 #[inline]
 fn fewest(edition: u8) -> u16 {
-    u16::from(edition - FIRST_EDITION)
+    u16::from(edition / 2)
 }
+
+/// Question 15 at a gate, in a sound edition.
+#[inline]
+fn has_gates(edition: u8) -> bool {
+    edition >= GATES_EDITION
+}
+
+/// The most cars in stocks and on lines together.
+const MOST_CARS: u32 = 65_535;
 
 /// The set of all zones of a site of at most 8.
 #[inline]

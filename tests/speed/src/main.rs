@@ -3,7 +3,7 @@
 //! `speed compare` makes both do the same and compares every answer, with `--soak SECONDS` for so
 //! long. `speed time ROUNDS` prints the time of each call in nanoseconds. `speed count` makes
 //! each call once inside the function `speed_once`, for callgrind, and prints the calls in order;
-//! tools/speed.py runs both and prints tables. `speed journal ring|full ZONES RECORDS` writes a
+//! tools/speed.py runs both and prints tables. `speed journal ring|full|gates ZONES RECORDS` writes a
 //! journal that is measured to standard output.
 
 mod compare;
@@ -15,7 +15,7 @@ use speed::site::{Run, JOURNAL_BYTES};
 use std::io::Write;
 
 fn usage() -> ! {
-    eprintln!("usage: speed compare [--soak SECONDS] | time ROUNDS | count | journal ring|full ZONES RECORDS");
+    eprintln!("usage: speed compare [--soak SECONDS] | time ROUNDS | count | journal ring|full|gates ZONES RECORDS");
     std::process::exit(2);
 }
 
@@ -47,6 +47,9 @@ fn main() {
         }
         ["journal", "full", zones, records] => {
             journal(&scenes::full(number(zones), number(records)))
+        }
+        ["journal", "gates", zones, records] => {
+            journal(&scenes::gates(number(zones), number(records)))
         }
         _ => usage(),
     }

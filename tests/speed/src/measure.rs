@@ -226,6 +226,42 @@ const START: Call = Call {
     ],
 };
 
+const ENTER: Call = Call {
+    name: "enter",
+    ops: [
+        |s| {
+            s.set_back();
+            idle::run(&mut s.work, s.first, s.third, 0)
+        },
+        |s| {
+            s.set_back();
+            proved::enter(&mut s.work, s.first, s.third)
+        },
+        |s| {
+            s.set_back();
+            s.work.enter(s.first, s.third)
+        },
+    ],
+};
+
+const LEAVE: Call = Call {
+    name: "leave",
+    ops: [
+        |s| {
+            s.set_back();
+            idle::run(&mut s.work, s.first, s.third, 0)
+        },
+        |s| {
+            s.set_back();
+            proved::leave(&mut s.work, s.first, s.third)
+        },
+        |s| {
+            s.set_back();
+            s.work.leave(s.first, s.third)
+        },
+    ],
+};
+
 const ZONE_OPEN: Call = Call {
     name: "zone open",
     ops: [
@@ -310,6 +346,12 @@ const CHECK_STEPS: [Call; 2] = [
     ),
 ];
 
+/// Steps on a zone of edition 3.
+const GATE_STEPS: [Call; 2] = [
+    step!("zone enter", zone_enter, enter, 3, 0, 0, (3), (3)),
+    step!("zone leave", zone_leave, leave, 3, 0, 0, (3), (3)),
+];
+
 /// A call on a scene with its label: call, lines, zones, records.
 struct Case {
     label: String,
@@ -352,7 +394,7 @@ fn cases() -> Vec<Case> {
         cases.push(case(&OPEN, "-", scenes::calm(zones)));
         for (lines, run) in [
             ("empty", scenes::calm(zones)),
-            ("full", scenes::crowded(zones)),
+            ("full", scenes::crowded(1, zones)),
         ] {
             for call in [SEND, RECEIVE, START] {
                 cases.push(case(&call, lines, run));
@@ -370,10 +412,35 @@ fn cases() -> Vec<Case> {
     for call in &CHECK_STEPS {
         cases.push(zone_case(call, scenes::checked(8)));
     }
+    gates(&mut cases);
     for case in &mut cases {
         try_out(case);
     }
     cases
+}
+
+/// The cases of edition 3.
+fn gates(cases: &mut Vec<Case>) {
+    for call in [READ, RECORD, READ_RECORD, WRITE] {
+        for zones in [2, 8] {
+            for records in [100, 1_000] {
+                cases.push(case(&call, "gates", scenes::gates(zones, records)));
+            }
+        }
+    }
+    for zones in [2, 8] {
+        for (lines, run) in [
+            ("empty", scenes::gated(zones)),
+            ("full", scenes::crowded(3, zones)),
+        ] {
+            for call in [ENTER, LEAVE] {
+                cases.push(case(&call, lines, run));
+            }
+        }
+    }
+    for call in &GATE_STEPS {
+        cases.push(zone_case(call, scenes::gated(8)));
+    }
 }
 
 fn try_out(case: &mut Case) {

@@ -30,26 +30,41 @@ uint8_t proved_start(cut_run *run, uint8_t zone)
     return cut_start(run, zone);
 }
 
-static uint8_t told(cut_written w, size_t *position, size_t *written)
+uint8_t proved_enter(cut_run *run, uint8_t zone, uint8_t cars)
 {
-    *position = w.position;
-    *written = w.written;
+    return cut_enter(run, zone, cars);
+}
+
+uint8_t proved_leave(cut_run *run, uint8_t zone, uint8_t cars)
+{
+    return cut_leave(run, zone, cars);
+}
+
+/* What writing answers beside the refusal. */
+typedef struct {
+    uint32_t total;
+    size_t position, written;
+} write_told;
+
+static uint8_t tell(write_told *told, cut_written w)
+{
+    *told = (write_told){w.total, w.position, w.written};
     return w.refusal;
 }
 
-uint8_t proved_record(const cut_run *run, uint8_t *out, size_t size, size_t *position, size_t *written)
+uint8_t proved_record(const cut_run *run, uint8_t *out, size_t size, write_told *told)
 {
-    return told(cut_record(run, out, size), position, written);
+    return tell(told, cut_record(run, out, size));
 }
 
-uint8_t proved_write(const cut_run *run, uint8_t *out, size_t size, size_t *position, size_t *written)
+uint8_t proved_write(const cut_run *run, uint8_t *out, size_t size, write_told *told)
 {
-    return told(cut_write(run, out, size), position, written);
+    return tell(told, cut_write(run, out, size));
 }
 
-uint8_t proved_read_record(const uint8_t *bytes, size_t n, uint8_t *out, size_t size, size_t *position, size_t *written)
+uint8_t proved_read_record(const uint8_t *bytes, size_t n, uint8_t *out, size_t size, write_told *told)
 {
-    return told(cut_journal_record(bytes, n, out, size), position, written);
+    return tell(told, cut_journal_record(bytes, n, out, size));
 }
 
 uint8_t proved_read(const uint8_t *bytes, size_t n, cut_run *run, size_t *position)
@@ -107,6 +122,16 @@ uint8_t proved_zone_start(cut_zone *zone, step_told *told)
     return step(zone, told, cut_zone_start(*zone));
 }
 
+uint8_t proved_zone_enter(cut_zone *zone, step_told *told, uint8_t cars)
+{
+    return step(zone, told, cut_zone_enter(*zone, cars));
+}
+
+uint8_t proved_zone_leave(cut_zone *zone, step_told *told, uint8_t cars)
+{
+    return step(zone, told, cut_zone_leave(*zone, cars));
+}
+
 /* Calls that do nothing: what measuring takes itself. */
 uint8_t idle_run(cut_run *run, uint8_t first, uint8_t second, uint8_t third)
 {
@@ -114,9 +139,9 @@ uint8_t idle_run(cut_run *run, uint8_t first, uint8_t second, uint8_t third)
     return 0;
 }
 
-uint8_t idle_bytes(const void *in, size_t n, uint8_t *out, size_t size, size_t *position, size_t *written)
+uint8_t idle_bytes(const void *in, size_t n, uint8_t *out, size_t size, write_told *told)
 {
-    (void)in, (void)n, (void)out, (void)size, (void)position, (void)written;
+    (void)in, (void)n, (void)out, (void)size, (void)told;
     return 0;
 }
 

@@ -5,7 +5,7 @@ use speed::zone::{Answer, Zone};
 use std::mem::{offset_of, size_of};
 
 mod raw {
-    use super::{Run, Told, Zone};
+    use super::{Numbers, Run, Told, Zone};
 
     extern "C" {
         pub static proved_layout: [usize; 26];
@@ -26,27 +26,26 @@ mod raw {
         pub fn proved_send(run: *mut Run, from: u8, to: u8, cars: u8) -> u8;
         pub fn proved_receive(run: *mut Run, from: u8, to: u8) -> u8;
         pub fn proved_start(run: *mut Run, zone: u8) -> u8;
+        pub fn proved_enter(run: *mut Run, zone: u8, cars: u8) -> u8;
+        pub fn proved_leave(run: *mut Run, zone: u8, cars: u8) -> u8;
         pub fn proved_record(
             run: *const Run,
             out: *mut u8,
             size: usize,
-            position: *mut usize,
-            written: *mut usize,
+            numbers: *mut Numbers,
         ) -> u8;
         pub fn proved_write(
             run: *const Run,
             out: *mut u8,
             size: usize,
-            position: *mut usize,
-            written: *mut usize,
+            numbers: *mut Numbers,
         ) -> u8;
         pub fn proved_read_record(
             bytes: *const u8,
             n: usize,
             out: *mut u8,
             size: usize,
-            position: *mut usize,
-            written: *mut usize,
+            numbers: *mut Numbers,
         ) -> u8;
         pub fn proved_read(bytes: *const u8, n: usize, run: *mut Run, position: *mut usize) -> u8;
         pub fn proved_read_here(bytes: *const u8, n: usize) -> u8;
@@ -67,14 +66,15 @@ mod raw {
         ) -> u8;
         pub fn proved_zone_request(zone: *mut Zone, told: *mut Told, set: u8) -> u8;
         pub fn proved_zone_start(zone: *mut Zone, told: *mut Told) -> u8;
+        pub fn proved_zone_enter(zone: *mut Zone, told: *mut Told, cars: u8) -> u8;
+        pub fn proved_zone_leave(zone: *mut Zone, told: *mut Told, cars: u8) -> u8;
         pub fn idle_run(run: *mut Run, first: u8, second: u8, third: u8) -> u8;
         pub fn idle_bytes(
             bytes: *const u8,
             n: usize,
             out: *mut u8,
             size: usize,
-            position: *mut usize,
-            written: *mut usize,
+            numbers: *mut Numbers,
         ) -> u8;
         pub fn idle_zone(zone: *mut Zone, told: *mut Told, first: u8, second: u8, third: u8) -> u8;
     }
@@ -158,9 +158,19 @@ pub fn start(run: &mut Run, zone: u8) -> u8 {
     unsafe { raw::proved_start(run, zone) }
 }
 
+pub fn enter(run: &mut Run, zone: u8, cars: u8) -> u8 {
+    unsafe { raw::proved_enter(run, zone, cars) }
+}
+
+pub fn leave(run: &mut Run, zone: u8, cars: u8) -> u8 {
+    unsafe { raw::proved_leave(run, zone, cars) }
+}
+
 /// What a call that writes answers beside the refusal.
+#[repr(C)]
 #[derive(Default)]
 pub struct Numbers {
+    total: u32,
     position: usize,
     written: usize,
 }
@@ -170,6 +180,7 @@ impl Numbers {
     pub fn with(self, refusal: u8) -> Written {
         Written {
             refusal,
+            total: self.total,
             position: self.position,
             written: self.written,
         }
@@ -177,43 +188,16 @@ impl Numbers {
 }
 
 pub fn record(run: &Run, out: &mut [u8], numbers: &mut Numbers) -> u8 {
-    let (bytes, size) = (out.as_mut_ptr(), out.len());
-    unsafe {
-        raw::proved_record(
-            run,
-            bytes,
-            size,
-            &mut numbers.position,
-            &mut numbers.written,
-        )
-    }
+    unsafe { raw::proved_record(run, out.as_mut_ptr(), out.len(), numbers) }
 }
 
 pub fn write(run: &Run, out: &mut [u8], numbers: &mut Numbers) -> u8 {
-    let (bytes, size) = (out.as_mut_ptr(), out.len());
-    unsafe {
-        raw::proved_write(
-            run,
-            bytes,
-            size,
-            &mut numbers.position,
-            &mut numbers.written,
-        )
-    }
+    unsafe { raw::proved_write(run, out.as_mut_ptr(), out.len(), numbers) }
 }
 
 pub fn read_record(journal: &[u8], out: &mut [u8], numbers: &mut Numbers) -> u8 {
     let (bytes, size) = (out.as_mut_ptr(), out.len());
-    unsafe {
-        raw::proved_read_record(
-            journal.as_ptr(),
-            journal.len(),
-            bytes,
-            size,
-            &mut numbers.position,
-            &mut numbers.written,
-        )
-    }
+    unsafe { raw::proved_read_record(journal.as_ptr(), journal.len(), bytes, size, numbers) }
 }
 
 pub fn read(run: &mut Run, bytes: &[u8]) -> Read {
@@ -247,6 +231,14 @@ pub fn zone_start(zone: &mut Zone, told: &mut Told) -> u8 {
     unsafe { raw::proved_zone_start(zone, told) }
 }
 
+pub fn zone_enter(zone: &mut Zone, told: &mut Told, cars: u8) -> u8 {
+    unsafe { raw::proved_zone_enter(zone, told, cars) }
+}
+
+pub fn zone_leave(zone: &mut Zone, told: &mut Told, cars: u8) -> u8 {
+    unsafe { raw::proved_zone_leave(zone, told, cars) }
+}
+
 /// The calls that do nothing.
 pub mod idle {
     use super::{raw, Numbers, Run, Told, Zone};
@@ -257,16 +249,7 @@ pub mod idle {
 
     pub fn bytes(journal: &[u8], out: &mut [u8], numbers: &mut Numbers) -> u8 {
         let (bytes, size) = (out.as_mut_ptr(), out.len());
-        unsafe {
-            raw::idle_bytes(
-                journal.as_ptr(),
-                journal.len(),
-                bytes,
-                size,
-                &mut numbers.position,
-                &mut numbers.written,
-            )
-        }
+        unsafe { raw::idle_bytes(journal.as_ptr(), journal.len(), bytes, size, numbers) }
     }
 
     pub fn zone(zone: &mut Zone, told: &mut Told, first: u8, second: u8, third: u8) -> u8 {

@@ -60,6 +60,27 @@ pub fn ring(zones: u8, records: usize) -> Run {
     run
 }
 
+/// The same traffic in edition 3, and with each hand-over 2 cars drive in at its sender before it and 1 out
+/// at its receiver behind it, so that half of the records are of gates.
+pub fn gates(zones: u8, records: usize) -> Run {
+    let mut run = opened(3, zones, 1_000);
+    let last = usize::from(zones);
+    let mut from = 0;
+    while room(&run, records) >= last + 4 {
+        let to = (from + 1) % zones;
+        must(run.enter(from + 1, 2));
+        hand_over(&mut run, from + 1, to + 1, 1);
+        must(run.leave(to + 1, 1));
+        from = to;
+    }
+    must(run.start(1));
+    while take_request(&mut run) {}
+    while room(&run, records) > 0 {
+        must(run.enter(1, 1));
+    }
+    run
+}
+
 /// Traffic that keeps the lines full, but for those from zone 1, which has heard all others, then a
 /// start by zone 1 and the receipts of its requests: nearly all that is on lines is recorded. With few
 /// records zone 1 hears zone 2 alone and nobody else receives.
@@ -116,9 +137,14 @@ pub fn checked(zones: u8) -> Run {
     one_item(2, zones, 0)
 }
 
+/// Such a run of edition 3, and the item is traffic.
+pub fn gated(zones: u8) -> Run {
+    one_item(3, zones, 3)
+}
+
 /// A run whose lines have 16 items each, those from zone 1 have 8; zone 1 has heard all others.
-pub fn crowded(zones: u8) -> Run {
-    let mut run = opened(1, zones, 8_000);
+pub fn crowded(edition: u8, zones: u8) -> Run {
+    let mut run = opened(edition, zones, 8_000);
     for from in 2..=zones {
         hand_over(&mut run, from, 1, 3);
     }

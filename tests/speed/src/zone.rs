@@ -1,6 +1,6 @@
 //! The zone part: one zone, lent to every step.
 
-use crate::{everybody, fewest, is_edition, FIRST_EDITION};
+use crate::{everybody, fewest, has_gates, is_edition, FIRST_EDITION};
 
 /// The stock and the own events that a mark keeps.
 #[repr(C)]
@@ -195,5 +195,36 @@ impl Zone {
             return Answer::refused(11);
         }
         self.turn_firm(0)
+    }
+
+    /// Questions 1, 15 and 6 at the gate, and then the stock with the cars; without one it is the number
+    /// of the last question.
+    #[inline(always)]
+    fn gate(&mut self, stock: Option<u16>, refusal: u8) -> Answer {
+        if !self.is_sound() {
+            return Answer::refused(1);
+        }
+        if !has_gates(self.edition) {
+            return Answer::refused(15);
+        }
+        if self.events >= MOST_EVENTS {
+            return Answer::refused(6);
+        }
+        let Some(stock) = stock else {
+            return Answer::refused(refusal);
+        };
+        self.stock = stock;
+        self.events += 1;
+        Answer::default()
+    }
+
+    #[inline(never)]
+    pub fn enter(&mut self, cars: u8) -> Answer {
+        self.gate(self.stock.checked_add(u16::from(cars)), 20)
+    }
+
+    #[inline(never)]
+    pub fn leave(&mut self, cars: u8) -> Answer {
+        self.gate(self.stock.checked_sub(u16::from(cars)), 7)
     }
 }

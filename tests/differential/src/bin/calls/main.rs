@@ -2,7 +2,8 @@
 //! instructions and its time can be told apart from a process's start.
 //!
 //! A call that changes a run gets a fresh copy of the run that the journal replays to. The call
-//! `copy` makes that copy alone; what it takes is to be taken off `send`, `receive` and `start`.
+//! `copy` makes that copy alone; what it takes is to be taken off `send`, `receive`, `start`, `enter`
+//! and `leave`.
 
 mod proved;
 mod second_calls;

@@ -35,6 +35,8 @@ fn on_run(name: &str, run: PlainRun) -> Option<Once> {
         "send" => changed(run, |copy| ffi::cut_site_send(copy, 1, 2, 3)),
         "receive" => changed(run, |copy| ffi::cut_site_receive(copy, 1, 2)),
         "start" => changed(run, |copy| ffi::cut_site_start(copy, 1)),
+        "enter" => changed(run, |copy| ffi::cut_site_enter(copy, 1, 3)),
+        "leave" => changed(run, |copy| ffi::cut_site_leave(copy, 1, 3)),
         "record" => writing(move |lent| ffi::cut_site_record(black_box(&run), lent).refusal),
         "write" => writing(move |lent| ffi::cut_journal_write(black_box(&run), lent).refusal),
         _ => return None,
@@ -73,6 +75,8 @@ fn on_zone(name: &str, zone: PlainZone) -> Option<Once> {
         "zone-receive" => stepped(|zone| ffi::cut_zone_receive(zone, 2, 3, 1)),
         "zone-request" => stepped(|zone| ffi::cut_zone_request(zone, 2)),
         "zone-start" => stepped(ffi::cut_zone_start),
+        "zone-enter" => stepped(|zone| ffi::cut_zone_enter(zone, 3)),
+        "zone-leave" => stepped(|zone| ffi::cut_zone_leave(zone, 3)),
         _ => return None,
     })
 }

@@ -2,7 +2,7 @@
 
 use crate::Once;
 use second::print::MOST_BYTES;
-use second::site::{Call, Run};
+use second::site::{Call, Direction, Run};
 use second::zone::{Answer, Zone};
 use second::{journal, recording};
 use std::hint::black_box;
@@ -28,6 +28,11 @@ fn changed(run: Rc<Run>, call: Option<Call>) -> Once {
 
 fn on_run(name: &str, run: Rc<Run>) -> Option<Once> {
     let (from, to) = (1, 2);
+    let gate = |direction: Direction| Call::Gate {
+        direction,
+        zone: 1,
+        cars: 3,
+    };
     Some(match name {
         "copy" => changed(run, None),
         "open" => Box::new(move || {
@@ -37,6 +42,8 @@ fn on_run(name: &str, run: Rc<Run>) -> Option<Once> {
         "send" => changed(run, Some(Call::HandOver { from, to, cars: 3 })),
         "receive" => changed(run, Some(Call::Receipt { from, to })),
         "start" => changed(run, Some(Call::Start { zone: 1 })),
+        "enter" => changed(run, Some(gate(Direction::In))),
+        "leave" => changed(run, Some(gate(Direction::Out))),
         "record" => writing(move |lent| recording::write(black_box(&run), lent).0),
         "write" => writing(move |lent| journal::write(black_box(&run), lent).0),
         _ => return None,
@@ -78,6 +85,8 @@ fn on_zone(name: &str, zone: Zone) -> Option<Once> {
         "zone-receive" => stepped(|zone| zone.take_hand_over(2, 3, true)),
         "zone-request" => stepped(|zone| zone.take_request(2)),
         "zone-start" => stepped(Zone::start),
+        "zone-enter" => stepped(|zone| zone.enter(3)),
+        "zone-leave" => stepped(|zone| zone.leave(3)),
         _ => return None,
     })
 }
