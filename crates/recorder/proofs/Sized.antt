@@ -3,7 +3,7 @@ use mathlib.Core.Path.{_≡_, sym, _∙_, ap, ap₂}
 use mathlib.Core.List.{List, _∷_, _++_}
 use Prim.Native.Nat.{ℕ, _+_, _*_, _<_, _≤_}
 use native.Mathlib.Omega.{arith}
-use lib.ListN.{length, drop, length-append}
+use lib.ListN.{length, drop, length-append, length-drop}
 use borrow.Author.Tests.{le-leb, lt-leb}
 use Rattle.words.specs.Bytes.{wordsBytes}
 use Rattle.journal.specs.Format.{headerOf}
@@ -52,3 +52,8 @@ module _ (h : Head) (ws ns shown : List ℕ) (number : ℕ) (lent : List ℕ)
         ≡ record { answer = record { refusal = 0; written = n; total = total }; bytes = out }
     unfolding sizedOutput
     enough b e = rw (le-leb (length (recordedBytes h ws ns)) (length lent) (omega (arith, size)), shows e, out-is, length-is)
+
+-- What was written upon is as long as before.
+pub wrote-room : (ws lent out : List ℕ) (n m : ℕ) → Wrote ws lent out n → m ≤ length lent → m ≤ length out
+wrote-room ws lent out n m w h =
+    omega (arith, ap length (w .bytes), length-append (wordsBytes ws) (drop n lent), length-drop n lent, bytes-length ws, w .number)

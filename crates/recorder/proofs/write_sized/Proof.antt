@@ -8,7 +8,7 @@ use Rattle.run.specs.State.{countOf}
 use Rattle.items.specs.InnerItems.{allWords}
 use Rattle.items.proofs.Counting.{counted-of}
 use Rattle.items.proofs.Writing.{all-number}
-use Rattle.recorder.proofs.Sized.{too-few, enough}
+use Rattle.recorder.proofs.Sized.{too-few, enough, wrote-room}
 use Rattle.recorder.specs.InnerWords.{writtenTotal}
 use borrow.Author.Needs.{needs}
 use Rattle.recorder.proofs.write_sized.Statement.{statement}
@@ -93,8 +93,10 @@ cast-total-in c = search needs
 
 total-in-requires : tie.Need-total-in-requires
 total-in-requires c κs =
-    let b = roomy (c .before .before .before) .before in
-    (start (events b) .pre .most, few b)
+    let w = c .before .before .before in
+    let t = roomy w in
+    let b = t .before in
+    (start (events b) .pre .most, few b, wrote-room _ _ _ _ _ (w .write-all .ensures) (t .if1 .left))
 
 same-length : tie.Need-same-length
 same-length c = search needs
