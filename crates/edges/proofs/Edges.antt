@@ -1,6 +1,6 @@
 -- The table of worked edges, by computing.
 use mathlib.Core.Path.{_≡_, refl}
-use Rattle.rules.specs.Edition.{isEdition, isTraffic}
+use Rattle.rules.specs.Edition.{isEdition, isTraffic, hasGates}
 use Rattle.rules.specs.Questions.{isCount, isOn}
 use Rattle.rules.specs.Sets.{has, members}
 use Rattle.local.specs.Requesting.{requestedBy, startedBy}
@@ -25,11 +25,11 @@ use Rattle.recording.specs.Layout.{itemWords, recordingBytes}
 use Rattle.recording.specs.Call.{noRequests, recordCall}
 use Rattle.recording.specs.Journal.{recordJournal}
 use Rattle.text.specs.Text.{digitCode, decimalText}
-use Rattle.zone.specs.Zone.{isOther, isZoneSound, openZone, sendStep, receiveStep, requestStep, startStep}
+use Rattle.zone.specs.Zone.{isOther, isZoneSound, openZone, sendStep, receiveStep, requestStep, startStep, gateStep}
 use Rattle.report.specs.Report.{reportText}
 use Rattle.edges.specs.Rows.{answers, expectations}
 use Rattle.edges.specs.Edges.{table}
 
 pub edges : answers table ≡ expectations table
-unfolding isEdition isTraffic isCount isOn has members requestedBy startedBy itemOf messageWord pushed movedDown popped allFree requestedAll isPair openCall answer isChannel localSound localsSound channelSound channelsSound stocks carsOnChannels partsSound hasStarted openedRun journalBytes decode readCall sameLocal sameChannel sameZones sameChannels sameState replaysTo isReplayed writeCall itemWords recordingBytes noRequests recordCall recordJournal digitCode decimalText isOther isZoneSound openZone sendStep receiveStep requestStep startStep reportText
+unfolding isEdition isTraffic hasGates isCount isOn has members requestedBy startedBy itemOf messageWord pushed movedDown popped allFree requestedAll isPair openCall answer isChannel localSound localsSound channelSound channelsSound stocks carsOnChannels partsSound hasStarted openedRun journalBytes decode readCall sameLocal sameChannel sameZones sameChannels sameState replaysTo isReplayed writeCall itemWords recordingBytes noRequests recordCall recordJournal digitCode decimalText isOther isZoneSound openZone sendStep receiveStep requestStep startStep gateStep reportText
 edges = refl
