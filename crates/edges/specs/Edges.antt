@@ -1,18 +1,21 @@
--- The worked edges (docs/RULES.md, section 8) in one table, those of editions in the file beside this one. A run that a row begins with is
--- opened or reached in an earlier row, but for those of `states` and those of an edition that is not defined. Numbers with 0x are hexadecimal, as in the layouts.
+-- The worked edges (docs/RULES.md, section 8) in one table, those of editions and of gates in the files beside this one. A run that a row
+-- begins with is opened or reached in an earlier row, but for those of `states` and `gateStates` and those of an edition that is not
+-- defined. Numbers with 0x are hexadecimal, as in the layouts.
 use mathlib.Core.Bool.{true, false}
 use mathlib.Core.List.{List, [], _∷_, _++_, map}
 use Prim.Native.Nat.{ℕ, _+_}
 use lib.ListN.{take, drop, replicate}
 use Rattle.rules.specs.Site.{Item, message, request}
 use Rattle.rules.specs.declared.Checkpoint.the-variants.{None}
+use Rattle.rules.specs.declared.Direction.the-variants.{In, Out}
 use Rattle.rules.specs.declared.Local.{Local}
 use Rattle.run.specs.declared.Run.{Run}
 use Rattle.run.specs.declared.SiteCall.{SiteCall}
-use Rattle.run.specs.declared.SiteCall.the-variants.{Send, Receive, Start}
+use Rattle.run.specs.declared.SiteCall.the-variants.{Send, Receive, Start, Gate}
 use Rattle.journal.specs.Claims.{caseA}
 use Rattle.zone.proofs.Examples as zones
 use Rattle.edges.specs.Editions.{lent, editions}
+use Rattle.edges.specs.Gates.{gates}
 use Rattle.edges.specs.Rows.{
   Row,
   partRow,
@@ -203,6 +206,9 @@ thousand =
     ∷ gives long [] (Send 1 2 1) 6 long
     ∷ gives long [] (Receive 1 2) 6 long
     ∷ gives long [] (Start 1) 6 long
+    -- Edition 1 has no gates, and 15 is asked before 6.
+    ∷ gives long [] (Gate In 1 1) 15 long
+    ∷ gives long [] (Gate Out 1 1) 15 long
     ∷ []
 
 -- A start sends no request.
@@ -491,7 +497,11 @@ states =
     ∷ writes unsound [] [] 1 0 []
     ∷ []
 
-abbrev pub table : List Row
-table =
+-- Those of edition 1 and of the zone part; and all.
+abbrev pub firstEdges : List Row
+firstEdges =
     map partRow zones.table ++ openings ++ cases ++ refusals ++ sixteen ++ thousand ++ starts ++ fullChannels ++ noCars ++ recordedChannels
-    ++ journals ++ states ++ editions
+    ++ journals ++ states
+
+abbrev pub table : List Row
+table = firstEdges ++ editions ++ gates
