@@ -64,7 +64,8 @@ drives =
     ∷ gives (pair 3) [] (Gate Out 1 0) 0 (gatesWith (zone 5 1 1 None ∷ zone 7 2 0 None ∷ []) [] (0xC100 ∷ []))
     ∷ gives (pair 3) [] (Gate In 2 0) 0 (gatesWith (zone 5 1 0 None ∷ zone 7 2 1 None ∷ []) [] (0xC800 ∷ []))
     ∷ gives (pair 3) [] (Gate Out 2 0) 0 (gatesWith (zone 5 1 0 None ∷ zone 7 2 1 None ∷ []) [] (0xC900 ∷ []))
-    -- "Edition 3 is edition 2 with kind 3": a message of 0 cars is no own event of either zone and makes no checkpoint; one with cars is both.
+    -- "Edition 3 is edition 2 with kind 3": a message of 0 cars is no own event of either zone and makes no checkpoint; one with cars is an
+    -- own event of both.
     ∷ gives (pair 3) [] (Send 1 2 0) 0
     (gatesWith (zone 5 1 0 None ∷ zone 7 2 0 None ∷ []) (channel 1 2 (message 0 false ∷ []) ∷ []) (0x0100 ∷ []))
     ∷ gives (pair 3) (Send 1 2 0 ∷ []) (Receive 1 2) 0 (gatesWith (zone 5 1 0 None ∷ zone 7 2 0 None ∷ []) [] (0x0100 ∷ 0x4100 ∷ []))
@@ -276,7 +277,8 @@ callsAbove = Gate Out 1 255 ∷ Gate In 2 255 ∷ Start 2 ∷ []
 abbrev pub recordingAbove : List ℕ
 recordingAbove = 0x64 ∷ 0x00 ∷ 0x00 ∷ 0x00 ∷ 0xFF ∷ 0xFF ∷ 0x80 ∷ 0x01 ∷ 0x00 ∷ 0xFF ∷ []
 
--- Three zones: gates inside the recording and behind the checkpoints. The journal, the run and the recording.
+-- Three zones, with gates inside the recording and behind the checkpoints: as opened, the calls before the last, and the run, the journal
+-- and the recording that follow.
 abbrev pub gatesOfThree : Run
 gatesOfThree = runIn 3 (10 ∷ 20 ∷ 30 ∷ []) (zone 10 1 0 None ∷ zone 20 2 0 None ∷ zone 30 4 0 None ∷ []) [] []
 
@@ -341,9 +343,6 @@ totals =
     -- 200 of these cars are recorded on a line: 65,535 + 55 + 200.
     ∷ records (full 3) (Gate Out 1 255 ∷ Gate In 2 255 ∷ Send 2 1 200 ∷ Start 2 ∷ []) (lent 12) 0 12 65790
     (0x64 ∷ 0x01 ∷ 0x00 ∷ 0x00 ∷ 0xFF ∷ 0xFF ∷ 0x80 ∷ 0x02 ∷ 0x00 ∷ 0x37 ∷ 0x08 ∷ 0xC8 ∷ [])
-    -- Both stocks are shown as 65,535: 257 times 255 cars drive out of zone 1, and into zone 2.
-    ∷ records (full 3) (times 257 (Gate Out 1 255 ∷ Gate In 2 255 ∷ []) ++ (Start 2 ∷ [])) (lent 10) 0 10 131070
-    (0x64 ∷ 0x00 ∷ 0x00 ∷ 0x00 ∷ 0xFF ∷ 0xFF ∷ 0x81 ∷ 0x01 ∷ 0xFF ∷ 0xFF ∷ [])
     -- "It equals the opening total plus entries less exits inside the recording": 8 + 15 + 30 = 60 + 3 - 9 - 1.
     ∷ opensIn 3 3 (10 ∷ 20 ∷ 30 ∷ []) 0 gatesOfThree
     ∷ gives gatesOfThree callsOfThree (Gate In 1 7) 0 runOfThree
@@ -353,12 +352,12 @@ totals =
     ∷ gives (pair 3) callsOfNone (Start 1) 0 runOfNone
     ∷ records runOfNone [] (lent 10) 0 10 12 (firstShown 0x02)
     ∷ prints journalOfNone "64 00 80 02 00 05 00 00 00 07\n"
-    -- Entries and exits behind the checkpoint are not in the recording, and those of a zone that is not recorded neither.
+    -- Entries and exits behind the checkpoint are not in the recording, nor are those of a zone that is not recorded.
     ∷ records (pair 3) (Start 1 ∷ Gate In 1 3 ∷ []) (lent 10) 0 10 12 (firstShown 0x00)
     ∷ records (pair 3) (Gate In 2 9 ∷ Start 1 ∷ Gate Out 1 5 ∷ Gate Out 2 2 ∷ []) (lent 10) 0 10 12 (firstShown 0x00)
     ∷ records (pair 3) (Gate In 1 3 ∷ Start 1 ∷ Gate In 1 9 ∷ []) (lent 10) 0 10 15
     (0x64 ∷ 0x00 ∷ 0x80 ∷ 0x01 ∷ 0x00 ∷ 0x08 ∷ 0x00 ∷ 0x00 ∷ 0x00 ∷ 0x07 ∷ [])
-    -- Refused ones are not either.
+    -- Nor are refused ones.
     ∷ records (pair 3) (Gate Out 1 6 ∷ Gate In 3 1 ∷ Start 1 ∷ []) (lent 10) 0 10 12 (firstShown 0x00)
     -- The recorded cars on lines count, received meanwhile or not: 6 + 7 + 3 = 12 + 4.
     ∷ records (pair 3) callsOnLine (lent 12) 0 12 16 recordingOnLine
