@@ -1,18 +1,21 @@
--- The worked edges (docs/RULES.md, section 8) in one table, those of editions in the file beside this one. A run that a row begins with is
--- opened or reached in an earlier row, but for those of `states` and those of an edition that is not defined. Numbers with 0x are hexadecimal, as in the layouts.
+-- The worked edges (docs/RULES.md, section 8) in one table, those of editions and of gates in the files beside this one. A run that a row
+-- begins with is opened or reached in an earlier row, but for those of `states` and `gateStates` and those of an edition that is not
+-- defined. Numbers with 0x are hexadecimal, as in the layouts.
 use mathlib.Core.Bool.{true, false}
 use mathlib.Core.List.{List, [], _∷_, _++_, map}
 use Prim.Native.Nat.{ℕ, _+_}
 use lib.ListN.{take, drop, replicate}
 use Rattle.rules.specs.Site.{Item, message, request}
 use Rattle.rules.specs.declared.Checkpoint.the-variants.{None}
+use Rattle.rules.specs.declared.Direction.the-variants.{In, Out}
 use Rattle.rules.specs.declared.Local.{Local}
 use Rattle.run.specs.declared.Run.{Run}
 use Rattle.run.specs.declared.SiteCall.{SiteCall}
-use Rattle.run.specs.declared.SiteCall.the-variants.{Send, Receive, Start}
+use Rattle.run.specs.declared.SiteCall.the-variants.{Send, Receive, Start, Gate}
 use Rattle.journal.specs.Claims.{caseA}
 use Rattle.zone.proofs.Examples as zones
 use Rattle.edges.specs.Editions.{lent, editions}
+use Rattle.edges.specs.Gates.{gates}
 use Rattle.edges.specs.Rows.{
   Row,
   partRow,
@@ -126,7 +129,7 @@ cases =
     ∷ prints caseA "28 01 80 02 00 04 80 01 00 18 00 00 00 1E 02 02\n"
     ∷ opens 3 (10 ∷ 10 ∷ 10 ∷ []) 0 tens
     ∷ gives tens callsB (Receive 2 3) 0 runB
-    ∷ records runB [] (lent 16) 0 14 (recordingB ++ lent 2)
+    ∷ records runB [] (lent 16) 0 14 30 (recordingB ++ lent 2)
     ∷ writes runB [] (lent 28) 0 26 (journalB ++ lent 2)
     ∷ prints journalB "28 00 80 01 00 0B 80 02 00 0A 80 01 00 09\n"
     ∷ []
@@ -203,6 +206,9 @@ thousand =
     ∷ gives long [] (Send 1 2 1) 6 long
     ∷ gives long [] (Receive 1 2) 6 long
     ∷ gives long [] (Start 1) 6 long
+    -- Edition 1 has no gates, and 15 is asked before 6.
+    ∷ gives long [] (Gate In 1 1) 15 long
+    ∷ gives long [] (Gate Out 1 1) 15 long
     ∷ []
 
 -- A start sends no request.
@@ -239,24 +245,24 @@ abbrev pub starts : List Row
 starts =
     -- A start that sends no request is complete by itself: the recording answers 0 at once. A second start is refused.
     gives two [] (Start 1) 0 alone
-    ∷ records alone [] (lent 10) 0 10 recordingAlone
+    ∷ records alone [] (lent 10) 0 10 12 recordingAlone
     ∷ gives alone [] (Start 2) 11 alone
     -- None is started; a request is under way; it is received.
-    ∷ records two [] (lent 10) 12 0 (lent 10)
+    ∷ records two [] (lent 10) 12 0 0 (lent 10)
     ∷ gives two (Send 2 1 1 ∷ Receive 2 1 ∷ []) (Start 1) 0 waiting
-    ∷ records waiting [] (lent 10) 13 0 (lent 10)
-    ∷ records waiting (Receive 1 2 ∷ []) (lent 10) 0 10
+    ∷ records waiting [] (lent 10) 13 0 0 (lent 10)
+    ∷ records waiting (Receive 1 2 ∷ []) (lent 10) 0 10 12
     (0x24 ∷ 0x00 ∷ 0x80 ∷ 0x01 ∷ 0x00 ∷ 0x06 ∷ 0x80 ∷ 0x01 ∷ 0x00 ∷ 0x06 ∷ [])
     -- The lent bytes are one too few; they are asked for last.
-    ∷ records alone [] (lent 9) 14 0 (lent 9)
-    ∷ records two [] [] 12 0 []
-    ∷ records waiting [] [] 13 0 []
+    ∷ records alone [] (lent 9) 14 0 0 (lent 9)
+    ∷ records two [] [] 12 0 0 []
+    ∷ records waiting [] [] 13 0 0 []
     -- "later bytes keep what they had".
-    ∷ records alone [] (lent 13) 0 10 (recordingAlone ++ lent 3)
+    ∷ records alone [] (lent 13) 0 10 12 (recordingAlone ++ lent 3)
     -- The zones and the cars of a record are the highest that it can name.
     ∷ gives eight (Send 7 8 255 ∷ Receive 7 8 ∷ []) (Start 8) 0 requestSent
     ∷ gives requestSent [] (Receive 8 7) 0 requestReceived
-    ∷ records requestReceived [] (lent 34) 0 34
+    ∷ records requestReceived [] (lent 34) 0 34 465
     (
     0x3C ∷ 0x00
     ∷ 0x00 ∷ 0x00 ∷ 0x00 ∷ 0x0A
@@ -344,7 +350,7 @@ noCars =
     (channel 2 3 (message 0 true ∷ []) ∷ [])
     (0x8000 ∷ 0x0100 ∷ 0x4100 ∷ 0x0A00 ∷ []))
     -- A recorded channel shows it.
-    ∷ records two (Send 1 2 0 ∷ Start 1 ∷ []) (lent 12) 0 12
+    ∷ records two (Send 1 2 0 ∷ Start 1 ∷ []) (lent 12) 0 12 12
     (0x24 ∷ 0x01 ∷ 0x80 ∷ 0x01 ∷ 0x00 ∷ 0x05 ∷ 0x00 ∷ 0x00 ∷ 0x00 ∷ 0x07 ∷ 0x01 ∷ 0x00 ∷ [])
     ∷ []
 
@@ -395,11 +401,11 @@ recordedChannels =
     -- "It can hold more than 16."
     opens 2 (255 ∷ 7 ∷ []) 0 sending
     ∷ gives sending callsPassing (Start 1) 0 passing
-    ∷ records passing [] (lent 50) 0 50 recordingPassing
+    ∷ records passing [] (lent 50) 0 50 262 recordingPassing
     -- Calls after it do not change the recording, receipts of what it shows included.
-    ∷ records passing (replicate 16 (Receive 1 2) ++ (Send 1 2 9 ∷ Receive 1 2 ∷ Send 2 1 8 ∷ [])) (lent 50) 0 50 recordingPassing
+    ∷ records passing (replicate 16 (Receive 1 2) ++ (Send 1 2 9 ∷ Receive 1 2 ∷ Send 2 1 8 ∷ [])) (lent 50) 0 50 262 recordingPassing
     -- The items stand "by sender, then receiver, then order sent".
-    ∷ records three callsAll (lent 22) 0 22 recordingAll
+    ∷ records three callsAll (lent 22) 0 22 60 recordingAll
     ∷ []
 
 -- The journal of two zones, opened with 5 and 7 cars, with up to 255 records: their number, and their bytes.
@@ -416,11 +422,13 @@ journals =
     writes two [] (lent 5) 14 0 (lent 5)
     ∷ writes two [] (lent 6) 0 6 (journalWith 0 [])
     ∷ writes two [] (lent 9) 0 6 (journalWith 0 (lent 3))
-    -- The journal has no byte, or one; its edition is 0, 3 or 7.
+    -- The journal has no byte, or one; its edition is 0, or 4 to 7.
     ∷ reads [] 15 0 nothing
     ∷ reads (0x24 ∷ []) 15 0 nothing
     ∷ reads (0x04 ∷ 0x00 ∷ 0x00 ∷ 0x05 ∷ 0x00 ∷ 0x07 ∷ []) 15 0 nothing
-    ∷ reads (0x64 ∷ 0x00 ∷ 0x00 ∷ 0x05 ∷ 0x00 ∷ 0x07 ∷ []) 15 0 nothing
+    ∷ reads (0x84 ∷ 0x00 ∷ 0x00 ∷ 0x05 ∷ 0x00 ∷ 0x07 ∷ []) 15 0 nothing
+    ∷ reads (0xA4 ∷ 0x00 ∷ 0x00 ∷ 0x05 ∷ 0x00 ∷ 0x07 ∷ []) 15 0 nothing
+    ∷ reads (0xC4 ∷ 0x00 ∷ 0x00 ∷ 0x05 ∷ 0x00 ∷ 0x07 ∷ []) 15 0 nothing
     ∷ reads (0xE4 ∷ 0x00 ∷ 0x00 ∷ 0x05 ∷ 0x00 ∷ 0x07 ∷ []) 15 0 nothing
     -- The zones field is 0; the records are 1,001; they are 1,000, but missing.
     ∷ reads (0x20 ∷ 0x00 ∷ 0x00 ∷ 0x05 ∷ []) 16 0 nothing
@@ -439,7 +447,7 @@ journals =
     (twoWith (zone 4 1 1 None ∷ zone 7 2 0 None ∷ []) (channel 1 2 (message 1 false ∷ []) ∷ []) (0x0101 ∷ []))
     ∷ reads (journalWith 2 (0x01 ∷ 0x01 ∷ 0x41 ∷ 0x00 ∷ [])) 0 0
     (twoWith (zone 4 1 1 None ∷ zone 8 3 1 None ∷ []) [] (0x0101 ∷ 0x4100 ∷ []))
-    -- The kind is 3; a receipt has cars; a start has a second zone, or cars.
+    -- The kind is 3, which edition 1 does not use; a receipt has cars; a start has a second zone, or cars.
     ∷ refuses 0xC0 0x00 18
     ∷ refuses 0x41 0x01 18
     ∷ refuses 0x81 0x00 18
@@ -475,7 +483,7 @@ unsound = twoWith (zone 65535 1 0 None ∷ zone 0 2 0 None ∷ []) (channel 1 2 
 abbrev pub states : List Row
 states =
     -- Recording and journal writing replay the journal; a message does not.
-    records unexplained [] (lent 10) 1 0 (lent 10)
+    records unexplained [] (lent 10) 1 0 0 (lent 10)
     ∷ writes unexplained [] (lent 8) 1 0 (lent 8)
     ∷ gives unexplained [] (Send 1 2 6) 0 (twoWith
     (zone 0 1 1 (permanent 6 0) ∷ zone 7 2 0 None ∷ [])
@@ -485,11 +493,15 @@ states =
     ∷ gives unsound [] (Send 1 3 0) 1 unsound
     ∷ gives unsound [] (Receive 1 2) 1 unsound
     ∷ gives unsound [] (Start 1) 1 unsound
-    ∷ records unsound [] [] 1 0 []
+    ∷ records unsound [] [] 1 0 0 []
     ∷ writes unsound [] [] 1 0 []
     ∷ []
 
-abbrev pub table : List Row
-table =
+-- Those of edition 1 and of the zone part; and all.
+abbrev pub firstEdges : List Row
+firstEdges =
     map partRow zones.table ++ openings ++ cases ++ refusals ++ sixteen ++ thousand ++ starts ++ fullChannels ++ noCars ++ recordedChannels
-    ++ journals ++ states ++ editions
+    ++ journals ++ states
+
+abbrev pub table : List Row
+table = firstEdges ++ editions ++ gates

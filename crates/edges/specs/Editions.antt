@@ -39,31 +39,37 @@ pair edition = pairIn edition (zone 5 1 0 None ∷ zone 7 2 0 None ∷ []) [] []
 
 abbrev pub named : List Row
 named =
-    -- Editions 1 and 2 are opened, 0, 3, 7 and 255 are not; what is handed back then has edition 1.
+    -- Editions 1 to 3 are opened, 0, 4 to 7 and 255 are not; what is handed back then has edition 1.
     opensIn 0 2 (5 ∷ 7 ∷ []) 15 nothing
     ∷ opensIn 1 2 (5 ∷ 7 ∷ []) 0 (pair 1)
     ∷ opensIn 2 2 (5 ∷ 7 ∷ []) 0 (pair 2)
-    ∷ opensIn 3 2 (5 ∷ 7 ∷ []) 15 nothing
+    ∷ opensIn 3 2 (5 ∷ 7 ∷ []) 0 (pair 3)
+    ∷ opensIn 4 2 (5 ∷ 7 ∷ []) 15 nothing
+    ∷ opensIn 5 2 (5 ∷ 7 ∷ []) 15 nothing
+    ∷ opensIn 6 2 (5 ∷ 7 ∷ []) 15 nothing
     ∷ opensIn 7 2 (5 ∷ 7 ∷ []) 15 nothing
     ∷ opensIn 255 2 (5 ∷ 7 ∷ []) 15 nothing
     -- 15 is asked before 2, 3 and 4, and these of every edition.
-    ∷ opensIn 3 9 [] 15 nothing
+    ∷ opensIn 4 9 [] 15 nothing
     ∷ opensIn 0 2 (5 ∷ []) 15 nothing
     ∷ opensIn 7 2 (65535 ∷ 1 ∷ []) 15 nothing
     ∷ opensIn 2 9 [] 2 nothing
     ∷ opensIn 2 2 (5 ∷ []) 3 nothing
     ∷ opensIn 2 2 (65535 ∷ 1 ∷ []) 4 nothing
+    ∷ opensIn 3 9 [] 2 nothing
+    ∷ opensIn 3 2 (5 ∷ []) 3 nothing
+    ∷ opensIn 3 2 (65535 ∷ 1 ∷ []) 4 nothing
     -- A run of an edition that is not defined is not sound.
     ∷ gives (pair 0) [] (Send 1 2 1) 1 (pair 0)
-    ∷ gives (pair 3) [] (Receive 1 2) 1 (pair 3)
+    ∷ gives (pair 4) [] (Receive 1 2) 1 (pair 4)
     ∷ gives (pair 7) [] (Start 1) 1 (pair 7)
-    ∷ records (pair 3) [] (lent 10) 1 0 (lent 10)
+    ∷ records (pair 4) [] (lent 10) 1 0 0 (lent 10)
     ∷ writes (pair 0) [] (lent 6) 1 0 (lent 6)
     -- A journal has its run's edition, and so has a recording.
     ∷ writes (pair 2) [] (lent 6) 0 6 (0x44 ∷ 0x00 ∷ 0x00 ∷ 0x05 ∷ 0x00 ∷ 0x07 ∷ [])
     ∷ reads (0x44 ∷ 0x00 ∷ 0x00 ∷ 0x05 ∷ 0x00 ∷ 0x07 ∷ []) 0 0 (pair 2)
     ∷ reads (0x44 ∷ 0x01 ∷ 0x00 ∷ 0x05 ∷ 0x00 ∷ 0x07 ∷ 0x48 ∷ 0x00 ∷ []) 19 0 nothing
-    ∷ records (pair 2) (Start 1 ∷ []) (lent 10) 0 10 (0x44 ∷ 0x00 ∷ 0x80 ∷ 0x00 ∷ 0x00 ∷ 0x05 ∷ 0x00 ∷ 0x00 ∷ 0x00 ∷ 0x07 ∷ [])
+    ∷ records (pair 2) (Start 1 ∷ []) (lent 10) 0 10 12 (0x44 ∷ 0x00 ∷ 0x80 ∷ 0x00 ∷ 0x00 ∷ 0x05 ∷ 0x00 ∷ 0x00 ∷ 0x00 ∷ 0x07 ∷ [])
     ∷ []
 
 -- Runs of three zones of edition 2, opened with 10, 20 and 30 cars.
@@ -103,7 +109,7 @@ checks =
     []
     (0x0104 ∷ 0x4100 ∷ []))
     -- A recorded channel does not show a check, before the start or behind it.
-    ∷ records checkable (Send 1 2 0 ∷ Send 1 2 3 ∷ Send 1 2 0 ∷ Start 1 ∷ Send 1 2 0 ∷ []) (lent 16) 0 16
+    ∷ records checkable (Send 1 2 0 ∷ Send 1 2 3 ∷ Send 1 2 0 ∷ Start 1 ∷ Send 1 2 0 ∷ []) (lent 16) 0 16 60
     (0x48 ∷ 0x01 ∷ 0x80 ∷ 0x01 ∷ 0x00 ∷ 0x07 ∷ 0x00 ∷ 0x00 ∷ 0x00 ∷ 0x14 ∷ 0x00 ∷ 0x00 ∷ 0x00 ∷ 0x1E ∷ 0x01 ∷ 0x03 ∷ [])
     ∷ []
 

@@ -1,3 +1,4 @@
 pub mod Rows
 pub mod Editions
+pub mod Gates
 pub mod Edges

@@ -20,7 +20,7 @@ use Rattle.run.specs.declared.Answer.{Answer}
 use Rattle.journal.specs.Reading.{readCall}
 use Rattle.journal.specs.Writing.{Output, writeCall}
 use Rattle.journal.specs.declared.Reading.{Reading}
-use Rattle.recording.specs.Call.{recordCall}
+use Rattle.recording.specs.Call.{RecordOutput, recordCall}
 use Rattle.text.specs.Codes.{codes}
 use Rattle.zone.proofs.Examples as zones
 use Rattle.report.specs.Report.{reportText}
@@ -40,6 +40,7 @@ pub data Reply : Type 0 where
   part : zones.Reply → Reply
   site : Answer → Reply
   output : Output → Reply
+  recorded : RecordOutput → Reply
   reading : Reading → Reply
   text : List ℕ → Reply
 
@@ -48,7 +49,7 @@ abbrev pub reply : RowCall → Reply
 reply (Part r) = part r
 reply (Open o) = site (openCall o)
 reply (Call r cs c) = site (answer c (after cs r))
-reply (Record r cs lent) = output (recordCall (after cs r) lent)
+reply (Record r cs lent) = recorded (recordCall (after cs r) lent)
 reply (Write r cs lent) = output (writeCall (after cs r) lent)
 reply (Read journal) = reading (readCall journal)
 reply (Print journal) = text (reportText journal)
@@ -83,16 +84,20 @@ opens = opensIn 1
 abbrev pub gives : Run → List SiteCall → SiteCall → ℕ → Run → Row
 gives r cs c n r′ = record { call = Call r cs c; expected = site (record { refusal = n; run = r′ }) }
 
--- A writer's answer: the refusal's number, the number of bytes written, and all the lent bytes after it.
-abbrev pub written : ℕ → ℕ → List ℕ → Reply
-written n number bytes = output (record { answer = record { refusal = n; written = number }; bytes = bytes })
+-- A recording of a run after some calls: the refusal's number, the number of bytes written, the recorded total, 0 beside a refusal, and all
+-- the lent bytes after it.
+abbrev pub records : Run → List SiteCall → List ℕ → ℕ → ℕ → ℕ → List ℕ → Row
+records r cs lent n number total bytes = record {
+  call = Record r cs lent;
+  expected = recorded (record { answer = record { refusal = n; written = number; total = total }; bytes = bytes });
+}
 
--- A recording of a run after some calls, and a journal of it.
-abbrev pub records : Run → List SiteCall → List ℕ → ℕ → ℕ → List ℕ → Row
-records r cs lent n number bytes = record { call = Record r cs lent; expected = written n number bytes }
-
+-- A journal of it: the same without a total.
 abbrev pub writes : Run → List SiteCall → List ℕ → ℕ → ℕ → List ℕ → Row
-writes r cs lent n number bytes = record { call = Write r cs lent; expected = written n number bytes }
+writes r cs lent n number bytes = record {
+  call = Write r cs lent;
+  expected = output (record { answer = record { refusal = n; written = number }; bytes = bytes });
+}
 
 -- A reading, with the refusal's number, the record's position and the run.
 abbrev pub reads : List ℕ → ℕ → ℕ → Run → Row
