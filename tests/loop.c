@@ -1,6 +1,6 @@
 /* The controller's loop of docs/INTEGRATION.md, run as it stands there: tools/installed.sh takes it out of the document into loop.inc. Zone 1
- * of 3 hands over, takes, waits for room, turns firm by a request, sends its own and drops the next; zone 2 starts; zone 3 checks lines. Exits
- * 1 if a value is not as it must be. */
+ * of 3 hands over, takes, waits for room, turns firm by a request, sends its own and drops the next; zone 2 starts; zone 3 checks lines, and
+ * then has a street entrance. Exits 1 if a value is not as it must be. */
 #include <stdint.h>
 #include <stdio.h>
 #include <stdlib.h>
@@ -107,5 +107,14 @@ int main(void)
     must_put(6, 1, 0, "which is on the line");
     must(take(2, 256) == CUT_ACCEPTED && zone.deps == 4 && zone.mark == CUT_MARK_NONE, "one that is taken is not heard and causes no mark");
     must_log(9, HANDED, 3, 1, 4, 1, "and checks are in no log");
+    must(count_at_gate(IN, 1) == CUT_REFUSED_EDITION && zone.stock == 6, "edition 2 has no gates");
+
+    zone = cut_zone_open(3, 3, 3, 10).zone;
+    must(count_at_gate(IN, 5) == CUT_ACCEPTED && zone.stock == 15 && zone.events == 1, "5 cars drive in at zone 3, of edition 3");
+    must_log(10, GATE, 3, IN, 5, 1, "which is in the log, as own event 1");
+    must(count_at_gate(OUT, 16) == CUT_REFUSED_STOCK_TOO_LOW && entry.times == 10, "16 of 15 cars do not drive out");
+    must(count_at_gate(OUT, 15) == CUT_ACCEPTED && zone.stock == 0, "15 do");
+    must_log(11, GATE, 3, OUT, 15, 2, "which is in the log, as own event 2");
+    must(zone.deps == 4 && zone.mark == CUT_MARK_NONE && line.times == 6, "nobody was heard, marked or sent anything");
     return 0;
 }
