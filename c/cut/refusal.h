@@ -86,8 +86,8 @@ enum cut_refusal {
     CUT_REFUSED_SUM_TOO_HIGH = 21
 };
 
-/* The kinds of a checkpoint ("mark"): none, mutable ("provisional") or permanent ("firm"). The field that holds one is a byte; every other
- * value of it is refused with 1. */
+/* The kinds of a checkpoint ("mark"): none, mutable ("provisional") or permanent ("firm"). Every other value of a field that holds one is
+ * refused with 1. */
 enum cut_mark_kind {
     CUT_MARK_NONE = 0,
     CUT_MARK_MUTABLE = 1,
