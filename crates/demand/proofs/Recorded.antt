@@ -1,7 +1,7 @@
 -- Demand 3 of a true run and of the recording call's definition.
 use mathlib.Core.Path.{_≡_, refl, sym, _∙_, ap, ap₂, subst}
 use mathlib.Core.Bool.{Bool, true, false, cond, false≢true}
-use mathlib.Core.Logic.{inl, inr, _≢_}
+use mathlib.Core.Logic.{inl, inr}
 use mathlib.Core.List.{List, [], _∷_, append-nil, map}
 use Prim.Native.Nat.{ℕ, _+_, _≤_, _<_}
 use native.Mathlib.Omega.{arith}
@@ -42,6 +42,7 @@ use Rattle.recording.specs.Shown.{shownIn}
 use Rattle.recording.proofs.Complete.{complete-if, if-complete}
 use Rattle.recording.proofs.Shows.{recording-shows, recording-edition, recording-balances, recording-cuts}
 use Rattle.recording.proofs.Sized.{recording-most}
+use Rattle.recording.proofs.Totals.{no-total}
 use Rattle.recording.proofs.Zones.{site-is}
 use Rattle.demand.specs.Demand.{Demand}
 
@@ -75,7 +76,6 @@ record ByNumber (r : Run) (lent : List ℕ) (o : RecordOutput) : Type 0 where
   twelve : o .answer .refusal ≡ 12 → hasStarted (r .head) ≡ false
   thirteen : o .answer .refusal ≡ 13 → noRequests (countOf (r .head)) (r .channels) ≡ false
   fourteen : o .answer .refusal ≡ 14 → Started r × Free r × (length lent < length (bytesOf r))
-  no-total : o .answer .refusal ≢ 0 → o .answer .total ≡ 0
 
 -- The call's output by the answers to questions 12, 13 and 14.
 answered-by : (r : Run) (lent : List ℕ) (x y z : Bool) → hasStarted (r .head) ≡ x → noRequests (countOf (r .head)) (r .channels) ≡ y
@@ -88,7 +88,6 @@ answered-by r lent false y z e f g = record {
   twelve = λ q. e;
   thirteen = λ (q : _≡_ {A = ℕ} 12 13). absurd (omega arith);
   fourteen = λ (q : _≡_ {A = ℕ} 12 14). absurd (omega arith);
-  no-total = λ q. refl;
 }
 answered-by r lent true false z e f g = record {
   accepted = λ (q : _≡_ {A = ℕ} 13 0). absurd (omega arith);
@@ -97,7 +96,6 @@ answered-by r lent true false z e f g = record {
   twelve = λ (q : _≡_ {A = ℕ} 13 12). absurd (omega arith);
   thirteen = λ q. f;
   fourteen = λ (q : _≡_ {A = ℕ} 13 14). absurd (omega arith);
-  no-total = λ q. refl;
 }
 answered-by r lent true true false e f g = record {
   accepted = λ (q : _≡_ {A = ℕ} 14 0). absurd (omega arith);
@@ -106,7 +104,6 @@ answered-by r lent true true false e f g = record {
   twelve = λ (q : _≡_ {A = ℕ} 14 12). absurd (omega arith);
   thirteen = λ (q : _≡_ {A = ℕ} 14 13). absurd (omega arith);
   fourteen = λ q. (e, f, leb-false (length (bytesOf r)) (length lent) g);
-  no-total = λ q. refl;
 }
 answered-by r lent true true true e f g = record {
   accepted = λ q. (e, f, take-append-seam (bytesOf r) (drop (length (bytesOf r)) lent), refl);
@@ -115,7 +112,6 @@ answered-by r lent true true true e f g = record {
   twelve = λ (q : _≡_ {A = ℕ} 0 12). absurd (omega arith);
   thirteen = λ (q : _≡_ {A = ℕ} 0 13). absurd (omega arith);
   fourteen = λ (q : _≡_ {A = ℕ} 0 14). absurd (omega arith);
-  no-total = λ q. absurd (q refl);
 }
 
 record-numbers : (r : Run) (lent : List ℕ) → isReplayed r ≡ true → ByNumber r lent (recordCall r lent)
@@ -153,7 +149,7 @@ module _ (r : Run) (w : WholeRun r) (e : isReplayed r ≡ true) (lent : List ℕ
         recordCall r lent .answer .total + exits inner ≡ sum (openingStocks r) + entries inner) (sym (replayed-shown z))
         (ap (λ (n : ℕ). n + exits (inside (snapshotOf r .events) (moves (ruleCallsIn (recordWords r)) (openS (openingOf (openedWith r)))))) (a .3)
         ∙ recording-balances r w e (a .0) (a .1));
-    no-total = by-number .no-total;
+    no-total = no-total r lent;
     shows-edition = λ z. ap (λ (bytes : List ℕ). editionIn (wordAt bytes 0)) (by-number .accepted z .2 ∙ sym (append-nil (bytesOf r)))
         ∙ recording-edition r w e [];
     ends = ap present (sym (site-is r w e));

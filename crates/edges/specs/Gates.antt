@@ -18,6 +18,7 @@ use Rattle.edges.specs.Rows.{
   records,
   writes,
   reads,
+  recordsJournal,
   prints,
   zone,
   mutable,
@@ -277,6 +278,9 @@ callsAbove = Gate Out 1 255 ∷ Gate In 2 255 ∷ Start 2 ∷ []
 abbrev pub recordingAbove : List ℕ
 recordingAbove = 0x64 ∷ 0x00 ∷ 0x00 ∷ 0x00 ∷ 0xFF ∷ 0xFF ∷ 0x80 ∷ 0x01 ∷ 0x00 ∷ 0xFF ∷ []
 
+abbrev pub journalAbove : List ℕ
+journalAbove = 0x64 ∷ 0x03 ∷ 0xFF ∷ 0xFF ∷ 0x00 ∷ 0x00 ∷ 0xC1 ∷ 0xFF ∷ 0xC8 ∷ 0xFF ∷ 0x88 ∷ 0x00 ∷ []
+
 -- Three zones, with gates inside the recording and behind the checkpoints: as opened, the calls before the last, and the run, the journal
 -- and the recording that follow.
 abbrev pub gatesOfThree : Run
@@ -333,13 +337,25 @@ recordingOnLine = 0x64 ∷ 0x01 ∷ 0x80 ∷ 0x02 ∷ 0x00 ∷ 0x06 ∷ 0x00 ∷
 abbrev pub callsWaiting : List SiteCall
 callsWaiting = Send 2 1 1 ∷ Receive 2 1 ∷ Gate In 1 3 ∷ Start 1 ∷ []
 
+-- The journal of two zones, opened with 5 and 7 cars, by its first byte, with up to 255 records: their number, and their bytes.
+abbrev pub journalIn : ℕ → ℕ → List ℕ → List ℕ
+journalIn first number bytes = first ∷ number ∷ 0x00 ∷ 0x05 ∷ 0x00 ∷ 0x07 ∷ bytes
+
 abbrev pub totals : List Row
 totals =
     -- The total "may exceed 65,535": 65,535 + 255. The lent bytes are just enough, more ("later bytes keep what they had"), or one too few.
     records (full 3) callsAbove (lent 10) 0 10 65790 recordingAbove
     ∷ records (full 3) callsAbove (lent 15) 0 10 65790 (recordingAbove ++ lent 5)
     ∷ records (full 3) callsAbove (lent 9) 14 0 0 (lent 9)
-    ∷ prints (0x64 ∷ 0x03 ∷ 0xFF ∷ 0xFF ∷ 0x00 ∷ 0x00 ∷ 0xC1 ∷ 0xFF ∷ 0xC8 ∷ 0xFF ∷ 0x88 ∷ 0x00 ∷ []) "64 00 00 00 FF FF 80 01 00 FF\n"
+    ∷ prints journalAbove "64 00 00 00 FF FF 80 01 00 FF\n"
+    -- A journal's recording answers the total of its run, and 0 beside a refusal, that of a reading too.
+    ∷ recordsJournal journalAbove (lent 10) 0 0 10 65790 recordingAbove
+    ∷ recordsJournal journalAbove (lent 9) 14 0 0 0 (lent 9)
+    ∷ recordsJournal journalOfThree (lent 15) 0 0 14 53 (recordingOfThree ++ lent 1)
+    ∷ recordsJournal (journalIn 0x44 1 (0x80 ∷ 0x00 ∷ [])) (lent 10) 0 0 10 12
+    (0x44 ∷ 0x00 ∷ 0x80 ∷ 0x00 ∷ 0x00 ∷ 0x05 ∷ 0x00 ∷ 0x00 ∷ 0x00 ∷ 0x07 ∷ [])
+    ∷ recordsJournal (journalIn 0x64 2 (0xC0 ∷ 0x01 ∷ 0xC2 ∷ 0x00 ∷ [])) (lent 10) 18 1 0 0 (lent 10)
+    ∷ recordsJournal (journalIn 0x64 1 (0xC0 ∷ 0x01 ∷ [])) (lent 10) 12 0 0 0 (lent 10)
     -- 200 of these cars are recorded on a line: 65,535 + 55 + 200.
     ∷ records (full 3) (Gate Out 1 255 ∷ Gate In 2 255 ∷ Send 2 1 200 ∷ Start 2 ∷ []) (lent 12) 0 12 65790
     (0x64 ∷ 0x01 ∷ 0x00 ∷ 0x00 ∷ 0xFF ∷ 0xFF ∷ 0x80 ∷ 0x02 ∷ 0x00 ∷ 0x37 ∷ 0x08 ∷ 0xC8 ∷ [])
@@ -368,10 +384,6 @@ totals =
     ∷ records (pair 3) (callsWaiting ++ (Receive 1 2 ∷ [])) (lent 10) 0 10 15
     (0x64 ∷ 0x00 ∷ 0x80 ∷ 0x02 ∷ 0x00 ∷ 0x09 ∷ 0x80 ∷ 0x01 ∷ 0x00 ∷ 0x06 ∷ [])
     ∷ []
-
--- The journal of two zones, opened with 5 and 7 cars, by its first byte, with up to 255 records: their number, and their bytes.
-abbrev pub journalIn : ℕ → ℕ → List ℕ → List ℕ
-journalIn first number bytes = first ∷ number ∷ 0x00 ∷ 0x05 ∷ 0x00 ∷ 0x07 ∷ bytes
 
 -- Its one record, by its two bytes, is refused.
 abbrev pub refusesIn : ℕ → ℕ → ℕ → ℕ → Row

@@ -21,12 +21,13 @@ use Rattle.journal.specs.Reading.{readCall}
 use Rattle.journal.specs.Writing.{Output, writeCall}
 use Rattle.journal.specs.declared.Reading.{Reading}
 use Rattle.recording.specs.Call.{RecordOutput, recordCall}
+use Rattle.recording.specs.Journal.{JournalOutput, recordJournal}
 use Rattle.text.specs.Codes.{codes}
 use Rattle.zone.proofs.Examples as zones
 use Rattle.report.specs.Report.{reportText}
 
 -- What a row looks at: an answer of the zone part; an opening; a call on a run, its recording or its journal, each after some calls on it; the
--- reading of a journal; the program's text of a journal. A row holds this and not its answer, so that the check computes each run only once.
+-- reading of a journal; its recording; the program's text of a journal. A row holds this and not its answer, so that the check computes each run only once.
 pub data RowCall : Type 0 where
   Part : zones.Reply → RowCall
   Open : Opening → RowCall
@@ -34,6 +35,7 @@ pub data RowCall : Type 0 where
   Record : Run → List SiteCall → (lent : List ℕ) → RowCall
   Write : Run → List SiteCall → (lent : List ℕ) → RowCall
   Read : (journal : List ℕ) → RowCall
+  RecordJournal : (journal lent : List ℕ) → RowCall
   Print : (journal : List ℕ) → RowCall
 
 pub data Reply : Type 0 where
@@ -42,6 +44,7 @@ pub data Reply : Type 0 where
   output : Output → Reply
   recorded : RecordOutput → Reply
   reading : Reading → Reply
+  journalRecorded : JournalOutput → Reply
   text : List ℕ → Reply
 
 -- The answer, by the definitions that the contracts cite.
@@ -52,6 +55,7 @@ reply (Call r cs c) = site (answer c (after cs r))
 reply (Record r cs lent) = recorded (recordCall (after cs r) lent)
 reply (Write r cs lent) = output (writeCall (after cs r) lent)
 reply (Read journal) = reading (readCall journal)
+reply (RecordJournal journal lent) = journalRecorded (recordJournal journal lent)
 reply (Print journal) = text (reportText journal)
 
 pub record Row : Type 0 where
@@ -104,6 +108,14 @@ abbrev pub reads : List ℕ → ℕ → ℕ → Run → Row
 reads journal n position r = record {
   call = Read journal;
   expected = reading (record { refusal = n; position = position; run = r });
+}
+
+-- A journal's recording: the refusal's number, the record's position, the number of bytes written, the recorded total, and all the lent bytes
+-- after it.
+abbrev pub recordsJournal : List ℕ → List ℕ → ℕ → ℕ → ℕ → ℕ → List ℕ → Row
+recordsJournal journal lent n position number total bytes = record {
+  call = RecordJournal journal lent;
+  expected = journalRecorded (record { answer = record { refusal = n; position = position; written = number; total = total }; bytes = bytes });
 }
 
 -- What the program prints of a journal.

@@ -7,4 +7,5 @@ pub mod Bounds
 pub mod Sized
 pub mod Shows
 pub mod Read
+pub mod Totals
 pub mod Examples

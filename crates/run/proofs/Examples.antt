@@ -87,7 +87,7 @@ abbrev Checks : Type 0
 Checks = Left 1 3 2 true × Left 2 1 0 false
 
 -- Gates in edition 3: cars come in and go out, also 0, whether or not the zone has a checkpoint; what is left of zone 1, and the numbers of
--- refusals. Two zones with 65,535 cars, one of them on a line, let none in, and 1 in after 1 has gone out.
+-- refusals. Two zones with 65,535 cars, 255 of them on a line, let none in, and 1 in after 1 has gone out.
 abbrev gated : List SiteCall
 gated = Gate In 1 3 ∷ Gate Out 2 20 ∷ Gate Out 2 1 ∷ Start 1 ∷ Gate In 1 0 ∷ Gate Out 1 12 ∷ Gate In 4 0 ∷ []
 

@@ -1,4 +1,4 @@
--- The state of a run, and question 1 in the form that hand-over, receipt and start ask.
+-- The state of a run, and question 1 in the form that hand-over, receipt, start and gate calls ask.
 use mathlib.Core.Bool.{Bool, true, not, _&&_, _||_, cond}
 use mathlib.Core.List.{List, [], _∷_}
 use Prim.Native.Nat.{ℕ, _+_}

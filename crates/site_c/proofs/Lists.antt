@@ -1,7 +1,8 @@
 -- On every struct that a call gave, a call for C answers what the engine's call answers: so from an opening on, a list of calls for C gives
 -- the runs of the same list of the engine's calls, of which demand 3 speaks.
 use mathlib.Core.Path.{_≡_, refl, sym, _∙_, ap}
-use mathlib.Core.Bool.{Bool, true, false}
+use mathlib.Core.Bool.{Bool, true, false, cond}
+use mathlib.Core.Logic.{_≢_}
 use mathlib.Core.List.{List, [], _∷_}
 use Prim.Native.Nat.{ℕ, _<_}
 use lib.Dec.{leb, eqb}
@@ -20,10 +21,14 @@ use Rattle.run.proofs.BelowLaws.{all-of, length-below, list-at}
 use Rattle.run.proofs.Outcome.{kept}
 use Rattle.run.proofs.Whole.{call-whole, open-whole}
 use Rattle.journal.specs.Writing.{writeCall}
+use Rattle.journal.specs.Reading.{readCall}
 use Rattle.recording.specs.Call.{recordCall}
+use Rattle.recording.specs.Journal.{recordJournal}
+use Rattle.recording.proofs.Totals.{no-total, read-total, journal-no-total}
 use Rattle.zone_c.specs.Plain.{kindOf}
 use Rattle.zone_c.proofs.Laws.{mark-back}
-use Rattle.site_c.specs.Plain.{localOf, plainLocal, noPlain, plainAt, localsOf, plainLocals, areKinds, runOf, plainRun, plainAnswer, answerPlain, openPlain, callPlain, afterPlain, plainOutput, plainRecording, recordPlain, writePlain}
+use Rattle.site_c.specs.Plain.{localOf, plainLocal, noPlain, plainAt, localsOf, plainLocals, areKinds, runOf, plainRun, plainAnswer, answerPlain, openPlain, callPlain, afterPlain, plainOutput, plainRecording, PlainOutput, refusedPlainOutput, recordPlain, recordedPlain, writePlain}
+use Rattle.site_c.specs.declared.PlainRun.{PlainRun}
 use Rattle.run.specs.Opening.{openCall, termsAs, openingAs}
 use Rattle.run.specs.declared.SiteCall.{SiteCall}
 use Rattle.run.specs.declared.Opening.{Opening}
@@ -86,6 +91,29 @@ module _ (edition count : ℕ) (stocks : List ℕ) (cs : List SiteCall) where
 pub record-plain : (r : Run) (lent : List ℕ) → WholeRun r → recordPlain (plainRun r) lent ≡ plainRecording (recordCall r lent)
 unfolding recordPlain
 record-plain r lent w = rw (kinds (locals (r .head)), run-back r w)
+
+-- C is answered the engine's total, of a run and of a journal; and 0 beside a refusal.
+pub record-plain-total : (r : Run) (lent : List ℕ) → WholeRun r → recordPlain (plainRun r) lent .answer .total ≡ recordCall r lent .answer .total
+record-plain-total r lent w = rw (record-plain r lent w) refl
+
+pub journal-plain-total : (bytes lent : List ℕ) → readCall bytes .refusal ≡ 0
+    → recordedPlain (recordJournal bytes lent .answer) .total ≡ recordCall (readCall bytes .run) lent .answer .total
+journal-plain-total = read-total
+
+pub record-plain-no-total : (p : PlainRun) (lent : List ℕ) → recordPlain p lent .answer .refusal ≢ 0 → recordPlain p lent .answer .total ≡ 0
+unfolding recordPlain
+record-plain-no-total p lent = go (areKinds (p .head .zones))
+  where
+    out : Bool → PlainOutput
+    out b = cond b (plainRecording (recordCall (runOf p) lent)) (refusedPlainOutput lent 1 0)
+
+    go : (b : Bool) → out b .answer .refusal ≢ 0 → out b .answer .total ≡ 0
+    go true h = no-total (runOf p) lent h
+    go false h = refl
+
+pub journal-plain-no-total : (bytes lent : List ℕ) → recordedPlain (recordJournal bytes lent .answer) .refusal ≢ 0
+    → recordedPlain (recordJournal bytes lent .answer) .total ≡ 0
+journal-plain-no-total = journal-no-total
 
 pub write-plain : (r : Run) (lent : List ℕ) → WholeRun r → writePlain (plainRun r) lent ≡ plainOutput (writeCall r lent)
 unfolding writePlain
