@@ -19,7 +19,7 @@ use Rattle.rules.specs.Limits.{mostCars}
 use Rattle.rules.specs.Opening.{Opening}
 use Rattle.rules.specs.Park.{Move, inside, total, entries, exits}
 use Rattle.rules.specs.Questions.{Question, question, ask, Among, isCount, isOn}
-use Rattle.rules.specs.Site.{Item, message, request, Site, Call, send, receive, start, gate, stepS, openS}
+use Rattle.rules.specs.Site.{Item, message, request, Site, Call, send, receive, start, gate, entering, stepS, openS}
 use Rattle.rules.specs.declared.Direction.the-variants.{In, Out}
 use Rattle.rules.proofs.AskLaws.{AllYes, numbers, lacks, not-among, ask-cases}
 use Rattle.rules.proofs.Conservation.{Between, present-total, recorded-total}
@@ -27,7 +27,7 @@ use Rattle.rules.proofs.Editions.{no-cars, no-gates}
 use Rattle.rules.proofs.Lists.{All}
 use Rattle.rules.proofs.QuestionLaws.{on-high}
 use Rattle.rules.proofs.Sums.{sum-at}
-use Rattle.rules.proofs.Ungated.{Ungated, NoneThrough, none-through, none-inside}
+use Rattle.rules.proofs.Ungated.{Ungated, NoneThrough, ungated-none, none-through, none-inside}
 use Rattle.rules.proofs.Tests.{and-left, and-right, eqb-refl, below?}
 use Rattle.zone.specs.Zone.{isZoneSound, isOther, hasRoom, refused, sendStep, receiveStep, requestStep, startStep, gateStep}
 use Rattle.zone.specs.declared.Step.{Step}
@@ -156,14 +156,6 @@ module _ (z : Zone) (cars : ℕ) where
       asked-last z 15 (λ e. omega arith) (isZoneSound z) (hasGates (z .edition)) (hasRoom z) (leb (z .stock + cars) mostCars)
       (λ p q. le-leb (z .stock + cars) mostCars (room p q)) _ refl
 
--- The cars that drive in by a call.
-abbrev pub entering : Call → ℕ
-entering (send a b cars) = 0
-entering (receive a b) = 0
-entering (start a) = 0
-entering (gate In a cars) = cars
-entering (gate Out a cars) = 0
-
 -- ---- the cars
 
 -- Whatever the zone count, the opening and the calls, if at most one start was accepted.
@@ -277,13 +269,7 @@ module _ (n : ℕ) (o : Opening) (cs : List Call) (one : startsIn (acceptedCalls
 
   -- Where no more were opened than a zone may have, no call but an entry is refused with 20.
   pub ungated-never-20 : sumBelow n (o .stocks) ≤ mostCars → (c : Call) → Ungated c → RefusedWith 20 (answer c (after cs (openNetwork n o))) → ⊥
-  ungated-never-20 few c u = never-20 n o cs one c (omega (arith, few, none-fed .0, none-in c u))
-    where
-      none-in : (c : Call) → Ungated c → entering c ≡ 0
-      none-in (send a b cars) u = refl
-      none-in (receive a b) u = refl
-      none-in (start a) u = refl
-      none-in (gate d a cars) u = absurd (true≢false u)
+  ungated-never-20 few c u = never-20 n o cs one c (omega (arith, few, none-fed .0, ungated-none c u .0))
 
 -- So it is below edition 3, whatever the calls; there no call at all is refused with 20.
 module _ (n : ℕ) (o : Opening) (cs : List Call) (low : o .edition < 3) where

@@ -8,7 +8,7 @@ use Rattle.rules.specs.Change.{cons-if}
 use Rattle.rules.specs.Edition.{isTraffic}
 use Rattle.rules.specs.Cut.{taking, moveOf, moves}
 use Rattle.rules.specs.Park.{Move, hand, take, isInside, counted, insideFrom, entries, exits}
-use Rattle.rules.specs.Site.{Item, message, request, Site, Call, send, receive, start, gate, stepS}
+use Rattle.rules.specs.Site.{Item, message, request, Site, Call, send, receive, start, gate, entering, leaving, stepS}
 use Rattle.rules.proofs.Conservation.{entries-append, exits-append}
 use Rattle.rules.proofs.Lists.{All}
 
@@ -20,6 +20,12 @@ isGate (gate d a cars) = true
 
 abbrev pub Ungated : Call → Type 0
 Ungated c = isGate c ≡ false
+
+pub ungated-none : (c : Call) → Ungated c → (entering c ≡ 0) × (leaving c ≡ 0)
+ungated-none (send a b cars) e = (refl, refl)
+ungated-none (receive a b) e = (refl, refl)
+ungated-none (start a) e = (refl, refl)
+ungated-none (gate d a cars) e = absurd (true≢false e)
 
 -- No car drives in or out by these moves, nor then by those of them that are inside a recording.
 abbrev pub NoneThrough : List Move → Type 0

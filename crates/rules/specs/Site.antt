@@ -9,6 +9,7 @@ use Rattle.rules.specs.Change.{on, join}
 use Rattle.rules.specs.Sets.{has, nobody}
 use Rattle.rules.specs.Zone.{hasCheckpoint, isPermanent, opened, sentUnder, receivedUnder, gated, started, requested, targets, carried}
 use Rattle.rules.specs.declared.Direction.{Direction}
+use Rattle.rules.specs.declared.Direction.the-variants.{In, Out}
 use Rattle.rules.specs.declared.Local.{Local}
 
 -- What a channel carries: messages ("hand-overs"), with cars and the flag ("marked bit"), and requests, with a set of zones.
@@ -82,6 +83,21 @@ pub data Call : Type 0 where
   receive : (from to : ℕ) → Call
   start : (zone : ℕ) → Call
   gate : (direction : Direction) (zone cars : ℕ) → Call
+
+-- The cars that a call brings in from the street, and those that it takes out.
+abbrev pub entering : Call → ℕ
+entering (send a b cars) = 0
+entering (receive a b) = 0
+entering (start a) = 0
+entering (gate In a cars) = cars
+entering (gate Out a cars) = 0
+
+abbrev pub leaving : Call → ℕ
+leaving (send a b cars) = 0
+leaving (receive a b) = 0
+leaving (start a) = 0
+leaving (gate In a cars) = 0
+leaving (gate Out a cars) = cars
 
 -- "Each call is one indivisible step."
 abbrev pub stepS : Call → Site → Site

@@ -12,7 +12,7 @@ use Rattle.rules.specs.Change.{on, join}
 use Rattle.rules.specs.Questions.{index}
 use Rattle.rules.specs.Sets.{has}
 use Rattle.rules.specs.Zone.{isPermanent, needed, through, requested, started, targets, carried}
-use Rattle.rules.specs.Site.{Item, message, request, Site, send, receive, start, gate, popS, requestAllS, turnS, stepS, takeS}
+use Rattle.rules.specs.Site.{Item, message, request, Site, send, receive, start, gate, entering, leaving, popS, requestAllS, turnS, stepS, takeS}
 use Rattle.rules.specs.Cut.{May}
 use Rattle.rules.specs.declared.Local.{Local}
 use Rattle.rules.proofs.Guarded.{on-same, on-same-at}
@@ -24,7 +24,7 @@ use Rattle.run.specs.State.{carsOf, countOf, allCars}
 use Rattle.run.specs.Calls.{answer, granted}
 use Rattle.run.specs.Model.{siteOf}
 use Rattle.run.specs.Lists.{callOf, isAccepted, after}
-use Rattle.run.specs.Claims.{WholeRun, Typed, AllTyped, entering, leaving, entered, left}
+use Rattle.run.specs.Claims.{WholeRun, Typed, AllTyped, entered, left}
 use Rattle.run.specs.declared.Run.{Run}
 use Rattle.run.specs.declared.Answer.{Answer}
 use Rattle.run.proofs.Outcome.{Pair, Sited, sited, Passed, Refused, outcome, is-open, Fitting}
@@ -135,7 +135,7 @@ unfolding carsS
 gate-cars d a cars s = refl
 
 gate-changes : (n : ℕ) (d : Direction) (zone cars : ℕ) (s : Site) → index zone < n → needed d cars ≤ s .zone (index zone) .stock
-    → total n (stepS (gate d (index zone) cars) s) + leaving (Gate d zone cars) ≡ total n s + entering (Gate d zone cars)
+    → total n (stepS (gate d (index zone) cars) s) + leaving (gate d (index zone) cars) ≡ total n s + entering (gate d (index zone) cars)
 gate-changes n d zone cars s h m =
     let a = index zone in
     let t = stepS (gate d a cars) s in
@@ -147,12 +147,12 @@ gate-changes n d zone cars s h m =
         → stocksS n (stepS (gate d (index zone) cars) s) + s .zone (index zone) .stock
         ≡ stocksS n s + stepS (gate d (index zone) cars) s .zone (index zone) .stock
         → stepS (gate d (index zone) cars) s .zone (index zone) .stock ≡ through d cars (s .zone (index zone) .stock)
-        → total n (stepS (gate d (index zone) cars) s) + leaving (Gate d zone cars) ≡ total n s + entering (Gate d zone cars)
+        → total n (stepS (gate d (index zone) cars) s) + leaving (gate d (index zone) cars) ≡ total n s + entering (gate d (index zone) cars)
     go In m z x = omega (arith, gate-cars In (index zone) cars s)
     go Out m z x = omega (arith, gate-cars Out (index zone) cars s)
 
 pub step-changes : (n : ℕ) (c : SiteCall) (s : Site) → n ≤ 8 → Sited n (callOf c) → May (callOf c) s
-    → total n (stepS (callOf c) s) + leaving c ≡ total n s + entering c
+    → total n (stepS (callOf c) s) + leaving (callOf c) ≡ total n s + entering (callOf c)
 step-changes n (Send from to cars) s most p m = ap (λ (x : ℕ). x + 0) (send-keeps n most (index from) (index to) p s cars m)
 step-changes n (Receive from to) s most p m =
     ap (λ (x : ℕ). x + 0) (take-keeps n most (index from) (index to) p s (s .channel (index from) (index to)) refl)
@@ -165,7 +165,7 @@ cars-at r = ap₂ _+_ (stocks-are r) (cars-are r)
 
 -- An accepted call adds the cars that it brings in and takes away those that it takes out; a refused one changes nothing.
 pub granted-conserves : (c : SiteCall) (r : Run) → WholeRun r → Typed c → Passed c r
-    → allCars (granted c r .run) + leaving c ≡ allCars r + entering c
+    → allCars (granted c r .run) + leaving (callOf c) ≡ allCars r + entering (callOf c)
 granted-conserves c r w t p =
     let e = ap (λ (x : Answer). x .run) (p .result) in
     let (q, m) = refine c r w t (p .said) in
@@ -176,13 +176,13 @@ granted-conserves c r w t p =
     omega arith
 
 pub call-conserves : (c : SiteCall) (r : Run) → WholeRun r → Typed c
-    → allCars (answer c r .run) + cond (isAccepted c r) (leaving c) 0 ≡ allCars r + cond (isAccepted c r) (entering c) 0
+    → allCars (answer c r .run) + cond (isAccepted c r) (leaving (callOf c)) 0 ≡ allCars r + cond (isAccepted c r) (entering (callOf c)) 0
 call-conserves c r w t = go (outcome c r)
   where
     go : Passed c r ⊎ Refused c r
-        → allCars (answer c r .run) + cond (isAccepted c r) (leaving c) 0 ≡ allCars r + cond (isAccepted c r) (entering c) 0
+        → allCars (answer c r .run) + cond (isAccepted c r) (leaving (callOf c)) 0 ≡ allCars r + cond (isAccepted c r) (entering (callOf c)) 0
     go (inl p) =
-        rw (p .said) (ap (λ (x : Answer). allCars (x .run) + leaving c) (p .result) ∙ granted-conserves c r w t p)
+        rw (p .said) (ap (λ (x : Answer). allCars (x .run) + leaving (callOf c)) (p .result) ∙ granted-conserves c r w t p)
     go (inr p) = rw (p .said) (ap (λ (x : Run). allCars x + 0) (p .kept))
 
 pub conserve-from : (cs : List SiteCall) (r : Run) → WholeRun r → AllTyped cs

@@ -9,16 +9,16 @@ use native.Mathlib.Omega.{arith}
 use Rattle.rules.specs.Below.{sum}
 use Rattle.rules.specs.Change.{cons-if}
 use Rattle.rules.specs.Questions.{index}
-use Rattle.rules.specs.Site.{Site, Call}
+use Rattle.rules.specs.Site.{Site, Call, entering, leaving}
 use Rattle.rules.specs.Zone.{through}
 use Rattle.rules.specs.declared.Local.{Local}
 use Rattle.rules.specs.declared.Direction.{Direction}
 use Rattle.rules.proofs.Editions.{no-gates}
 use Rattle.rules.proofs.Gates as rules
 use Rattle.rules.proofs.Lists.{All}
-use Rattle.rules.proofs.Ungated.{Ungated}
+use Rattle.rules.proofs.Ungated.{Ungated, ungated-none}
 use Rattle.run.specs.Calls.{answer}
-use Rattle.run.specs.Claims.{WholeRun, AllTyped, entering, leaving, entered, left}
+use Rattle.run.specs.Claims.{WholeRun, AllTyped, entered, left}
 use Rattle.run.specs.Lists.{isAccepted, callOf, after, acceptedCalls}
 use Rattle.run.specs.State.{editionOf, allCars}
 use Rattle.run.specs.Opening.{openCall, openedRun}
@@ -77,29 +77,11 @@ call-edition c r = go (outcome c r)
     go (inl p) = ap (λ (x : Answer). editionOf (x .run .head)) (p .result)
     go (inr p) = ap (λ (x : Run). editionOf (x .head)) (p .kept)
 
-module _ (c : SiteCall) (r : Run) (low : editionOf (r .head) ≤ 2) (e : isAccepted c r ≡ true) where
-  no-gate : (d : Direction) (zone cars : ℕ) → c ≡ Gate d zone cars → ⊥
-  no-gate d zone cars q =
-      let p = passed (Gate d zone cars) r (subst (λ (x : SiteCall). isAccepted x r ≡ true) q e) in
-      true≢false (sym (p .offered .0) ∙ no-gates (editionOf (r .head)) low)
-
-  ungated : Ungated (callOf c)
-  ungated = go c refl
-    where
-      go : (x : SiteCall) → c ≡ x → Ungated (callOf x)
-      go (Send from to cars) q = refl
-      go (Receive from to) q = refl
-      go (Start zone) q = refl
-      go (Gate d zone cars) q = absurd (no-gate d zone cars q)
-
-  none : (entering c ≡ 0) × (leaving c ≡ 0)
-  none = go c refl
-    where
-      go : (x : SiteCall) → c ≡ x → (entering x ≡ 0) × (leaving x ≡ 0)
-      go (Send from to cars) q = (refl, refl)
-      go (Receive from to) q = (refl, refl)
-      go (Start zone) q = (refl, refl)
-      go (Gate d zone cars) q = absurd (no-gate d zone cars q)
+ungated : (c : SiteCall) (r : Run) → editionOf (r .head) ≤ 2 → isAccepted c r ≡ true → Ungated (callOf c)
+ungated (Send from to cars) r low e = refl
+ungated (Receive from to) r low e = refl
+ungated (Start zone) r low e = refl
+ungated (Gate d zone cars) r low e = absurd (true≢false (sym (passed (Gate d zone cars) r e .offered .0) ∙ no-gates (editionOf (r .head)) low))
 
 pub all-ungated : (cs : List SiteCall) (r : Run) → editionOf (r .head) ≤ 2 → All Ungated (acceptedCalls cs r)
 all-ungated [] r low = tt
@@ -117,8 +99,8 @@ none-entered (c ∷ cs) r low = go (isAccepted c r) refl (none-entered cs (answe
     next = answer c r .run
 
     go : (b : Bool) → isAccepted c r ≡ b → (entered cs next ≡ 0) × (left cs next ≡ 0)
-        → (cond b (entering c) 0 + entered cs next ≡ 0) × (cond b (leaving c) 0 + left cs next ≡ 0)
-    go true e (i, o) = let (x, y) = none c r low e in (omega arith, omega arith)
+        → (cond b (entering (callOf c)) 0 + entered cs next ≡ 0) × (cond b (leaving (callOf c)) 0 + left cs next ≡ 0)
+    go true e (i, o) = let (x, y) = ungated-none (callOf c) (ungated c r low e) in (omega arith, omega arith)
     go false e (i, o) = (omega arith, omega arith)
 
 -- So there stocks plus cars on lines stay the opening's.

@@ -15,7 +15,7 @@ use Rattle.rules.specs.Limits.{mostCars, places}
 use Rattle.rules.specs.Questions.{index}
 use Rattle.rules.specs.Sets.{has, nobody, only}
 use Rattle.rules.specs.Zone.{isPermanent, sentUnder, receivedUnder, gated, started, requested, depsAfter, targets, carried}
-use Rattle.rules.specs.Site.{Item, message, request, Site, Call, send, receive, start, gate, popS, requestAllS, turnS, stepS, takeS}
+use Rattle.rules.specs.Site.{Item, message, request, Site, Call, send, receive, start, gate, entering, popS, requestAllS, turnS, stepS, takeS}
 use Rattle.rules.specs.declared.Local.{Local}
 use Rattle.rules.specs.declared.Checkpoint.{Checkpoint}
 use Rattle.rules.specs.declared.Checkpoint.the-variants.{None, Mutable, Permanent}
@@ -30,7 +30,7 @@ use Rattle.run.specs.State.{setsWithin, allCars, isSound, termsOf, count
 use Rattle.run.specs.Calls.{answer, channelsAfter, granted, actorIn}
 use Rattle.run.specs.Model.{siteOf}
 use Rattle.run.specs.Lists.{callOf, after}
-use Rattle.run.specs.Claims.{WholeRun, Typed, AllTyped, entering, leaving}
+use Rattle.run.specs.Claims.{WholeRun, Typed, AllTyped}
 use Rattle.run.specs.declared.Run.{Run}
 use Rattle.run.specs.declared.Answer.{Answer}
 use Rattle.run.proofs.Outcome.{Sited, sited, Asks, Passed, Refused, outcome, Opened, NotOpened, open-outcome, Fitting, fallback-fits}
@@ -211,7 +211,7 @@ lens-step (Start zone) r w s (p, c, f) i j o =
 lens-step (Gate d zone cars) r w s _ i j o = s .lens i j o
 
 -- The cars stay at or below 65,535: question 21 has seen it of an entry.
-few-cars : (c : SiteCall) (r : Run) → Passed c r → allCars r ≤ mostCars → allCars r + entering c ≤ mostCars
+few-cars : (c : SiteCall) (r : Run) → Passed c r → allCars r ≤ mostCars → allCars r + entering (callOf c) ≤ mostCars
 few-cars (Send from to cars) r p h = omega arith
 few-cars (Receive from to) r p h = omega arith
 few-cars (Start zone) r p h = omega arith

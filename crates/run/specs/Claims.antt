@@ -9,12 +9,13 @@ use Rattle.rules.specs.Change.{cons-if}
 use Rattle.rules.specs.Limits.{mostZones, mostRecords, places}
 use Rattle.rules.specs.Edition.{hasGates}
 use Rattle.rules.specs.Questions.{Question, question, refusal, isOn}
+use Rattle.rules.specs.Site.{entering, leaving}
 use Rattle.rules.specs.declared.Direction.{Direction}
 use Rattle.rules.specs.declared.Direction.the-variants.{In, Out}
 use Rattle.channel.specs.Channels.{Whole}
 use Rattle.run.specs.State.{locals}
 use Rattle.run.specs.Calls.{isPair, recordOf, ownGateQuestions, answer}
-use Rattle.run.specs.Lists.{isAccepted}
+use Rattle.run.specs.Lists.{isAccepted, callOf}
 use Rattle.run.specs.declared.Run.{Run}
 use Rattle.run.specs.declared.SiteCall.{SiteCall}
 use Rattle.run.specs.declared.SiteCall.the-variants.{Send, Receive, Start, Gate}
@@ -37,29 +38,14 @@ abbrev pub AllTyped : List SiteCall → Type 0
 AllTyped [] = Unit {0}
 AllTyped (c ∷ cs) = Typed c × AllTyped cs
 
--- The cars that a call brings in from the street, and those that it takes out: of an accepted one.
-abbrev pub entering : SiteCall → ℕ
-entering (Send from to cars) = 0
-entering (Receive from to) = 0
-entering (Start zone) = 0
-entering (Gate In zone cars) = cars
-entering (Gate Out zone cars) = 0
-
-abbrev pub leaving : SiteCall → ℕ
-leaving (Send from to cars) = 0
-leaving (Receive from to) = 0
-leaving (Start zone) = 0
-leaving (Gate In zone cars) = 0
-leaving (Gate Out zone cars) = cars
-
--- The same of the accepted calls of a list: "entries" and "exits".
+-- The cars that the accepted calls of a list bring in from the street, and those that they take out: "entries" and "exits".
 abbrev pub entered : List SiteCall → Run → ℕ
 entered [] r = 0
-entered (c ∷ cs) r = cond (isAccepted c r) (entering c) 0 + entered cs (answer c r .run)
+entered (c ∷ cs) r = cond (isAccepted c r) (entering (callOf c)) 0 + entered cs (answer c r .run)
 
 abbrev pub left : List SiteCall → Run → ℕ
 left [] r = 0
-left (c ∷ cs) r = cond (isAccepted c r) (leaving c) 0 + left cs (answer c r .run)
+left (c ∷ cs) r = cond (isAccepted c r) (leaving (callOf c)) 0 + left cs (answer c r .run)
 
 -- What a sound run answers to a hand-over, by the zone count, the number of records, the sender's stock and the channel's length
 -- alone: whether a recording is started is not asked.
