@@ -2,3 +2,5 @@ pub mod Laws
 pub mod Indices
 pub mod Rows
 pub mod View
+pub mod Highest
+pub mod Search

@@ -15,7 +15,7 @@ use Rattle.rules.specs.Change.{on, join}
 use Rattle.rules.specs.Sets.{has, members, membersBelow}
 use Rattle.rules.specs.Site.{Item, message, request}
 use Rattle.channel.specs.Words.{itemOf, messageWord, requestWord}
-use Rattle.channel.specs.Channels.{channelsAs, Whole, Clean, channelIndex, lenOf, row, wordsOn, itemsOn, isFree, pushed, firstOf, movedDown, popped, freeBelow, allFree, fullAmong, firstFull, sentEach, requestedAll}
+use Rattle.channel.specs.Channels.{channelsAs, Whole, Clean, channelIndex, lenOf, row, wordsOn, itemsOn, isFree, pushed, firstOf, movedDown, popped, freeBelow, allFree, sentEach, requestedAll}
 use Rattle.channel.specs.declared.Channels.{Channels}
 use Rattle.channel.proofs.Rows.{row-length, row-at, row-set, row-other, row-popped, row-popped-other, down-length}
 
@@ -328,34 +328,6 @@ module _ (l : Channels) (a b : ℕ) (w : Whole l) (ha : a < 8) (hb : b < 8) wher
   lens-popped =
       let k = channelIndex a b in
       by-zones (lenOf l) (lenOf (popped l k)) (λ n. n - 1) a b hb (len-pop-same l k w (omega arith)) (λ j d. len-pop-other l k j d)
-
--- The search answers none exactly when all have a free place.
-
-none-append : (xs ys : List ℕ) (l : Channels) (from : ℕ)
-    → eqb (fullAmong (xs ++ ys) l from) 0 ≡ eqb (fullAmong xs l from) 0 && eqb (fullAmong ys l from) 0
-none-append [] ys l from = refl
-none-append (k ∷ xs) ys l from = go (none-append xs ys l from) (isFree l (channelIndex from k)) refl
-  where
-    go : eqb (fullAmong (xs ++ ys) l from) 0 ≡ eqb (fullAmong xs l from) 0 && eqb (fullAmong ys l from) 0
-        → (t : Bool) → isFree l (channelIndex from k) ≡ t
-        → eqb (fullAmong (k ∷ (xs ++ ys)) l from) 0 ≡ eqb (fullAmong (k ∷ xs) l from) 0 && eqb (fullAmong ys l from) 0
-    go more true e = rw (e) more
-    go more false e = rw (e, ne-eqb (k + 1) 0 (λ (f : k + 1 ≡ 0). omega arith))
-
-none-below : (n : ℕ) (l : Channels) (from to : ℕ) → eqb (fullAmong (membersBelow n to) l from) 0 ≡ freeBelow n l from to
-none-below zero l from to = refl
-none-below (suc n) l from to =
-    none-append (membersBelow n to) _ l from ∙ rw (none-below n l from to)
-    (ap (λ (t : Bool). freeBelow n l from to && t) (go (has to n) (isFree l (channelIndex from n)) refl))
-  where
-    go : (h t : Bool) → isFree l (channelIndex from n) ≡ t → eqb (fullAmong (cond h (n ∷ []) []) l from) 0 ≡ not h || t
-    go true true e = rw (e)
-    go true false e = rw (e) (ne-eqb (n + 1) 0 (λ (f : n + 1 ≡ 0). omega arith))
-    go false t e = refl
-
-pub all-free-none : (l : Channels) (from to : ℕ) → eqb (firstFull l from to) 0 ≡ allFree l from to
-unfolding firstFull allFree members
-all-free-none l from to = none-below 8 l from to
 
 -- A word on the channel to each zone of a set.
 

@@ -88,14 +88,14 @@ freeBelow (suc n) l from to = freeBelow n l from to && (not (has to n) || isFree
 unfoldable pub allFree : Channels → ℕ → ℕ → Bool
 allFree l from to = freeBelow mostZones l from to
 
--- The number of the first of some zones, in their order, whose channel is full; 0 where there is none.
-abbrev pub fullAmong : List ℕ → Channels → ℕ → ℕ
-fullAmong [] l from = 0
-fullAmong (k ∷ ks) l from = cond (isFree l (channelIndex from k)) (fullAmong ks l from) (k + 1)
+-- The number of the highest zone of a set, of those below index n, whose channel is full; 0 where all have a free place.
+abbrev pub fullBelow : ℕ → Channels → ℕ → ℕ → ℕ
+fullBelow zero l from to = 0
+fullBelow (suc n) l from to = cond (not (has to n) || isFree l (channelIndex from n)) (fullBelow n l from to) (n + 1)
 
--- The lowest zone of a set whose channel is full, by its number; 0 where all have a free place.
-unfoldable pub firstFull : Channels → ℕ → ℕ → ℕ
-firstFull l from to = fullAmong (members to) l from
+-- "Looking for a free place on the lines that must take a request": from the highest zone to the lowest.
+unfoldable pub highestFull : Channels → ℕ → ℕ → ℕ
+highestFull l from to = fullBelow mostZones l from to
 
 -- A word on the channel to each of some zones.
 abbrev pub sentEach : List ℕ → Channels → ℕ → ℕ → Channels

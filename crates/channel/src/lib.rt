@@ -13,7 +13,7 @@ ghost use Rattle.channel.specs.Channels.{
   pushed,
   popped,
   firstOf,
-  firstFull,
+  highestFull,
   requestedAll,
 };
 use rules::MOST_ITEMS;
@@ -119,22 +119,22 @@ pub fn pop(items: &mut [u16; WORDS], lens: &mut [u8; CHANNELS], k: usize) -> u16
     first
 }
 
-// The number of the lowest zone of a set whose channel is full; 0 where all have a free place. Steps calls it
+// The number of the highest zone of a set whose channel is full, by the zeros before it; 0 where all have a free place. Steps calls it
 // behind question 5, for a zone of a site.
-pub fn first_full(lens: &[u8; CHANNELS], from: usize, to: u8) -> u8
+pub fn highest_full(lens: &[u8; CHANNELS], from: usize, to: u8) -> u8
     requires { ⌜ from < mostZones ⌝ }
     ensures { λ r. ⌜
-        ((items : List ℕ) → r ≡ firstFull (channelsAs items (now (lens .entry))) from to)
+        ((items : List ℕ) → r ≡ highestFull (channelsAs items (now (lens .entry))) from to)
         ⌝ }
 {
-    let mut rest = to;
-    while rest != 0 {
-        let j = u8::trailing_zeros(rest) as usize;
-        let k = channel_index(from, j);
+    let mut unseen = to;
+    while unseen != 0 {
+        let j = 7 - u8::leading_zeros(unseen);
+        let k = channel_index(from, j as usize);
         if MOST_ITEMS <= lens[k] {
             return j as u8 + 1;
         }
-        rest = rest & (rest - 1);
+        unseen = unseen ^ (1u8 << j);
     }
     0
 }

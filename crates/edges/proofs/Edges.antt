@@ -6,7 +6,7 @@ use Rattle.rules.specs.Questions.{isCount, isOn}
 use Rattle.rules.specs.Sets.{has, members}
 use Rattle.local.specs.Requesting.{requestedBy, startedBy}
 use Rattle.channel.specs.Words.{itemOf, messageWord}
-use Rattle.channel.specs.Channels.{isChannel, pushed, movedDown, popped, allFree, requestedAll}
+use Rattle.channel.specs.Channels.{isChannel, pushed, movedDown, popped, allFree, highestFull, requestedAll}
 use Rattle.run.specs.Calls.{isPair, answer}
 use Rattle.run.specs.Opening.{openedRun, openCall}
 use Rattle.run.specs.State.{localSound, localsSound, channelSound, channelsSound, stocks, carsOnChannels, partsSound, hasStarted}
@@ -31,14 +31,15 @@ use Rattle.report.specs.Report.{reportText}
 use Rattle.edges.specs.Rows.{Row, Reply, reply, answers, expectations}
 use Rattle.edges.specs.Editions.{editions}
 use Rattle.edges.specs.Gates.{gates}
+use Rattle.edges.specs.Searches.{searches}
 use Rattle.edges.specs.Edges.{firstEdges, table}
 
 -- What the rows are computed by, named once: `unfolding computed` unfolds all of it.
 computed : List Row → List Reply
-unfolding isEdition isTraffic hasGates isCount isOn has members requestedBy startedBy itemOf messageWord pushed movedDown popped allFree requestedAll isPair openCall answer isChannel localSound localsSound channelSound channelsSound stocks carsOnChannels partsSound hasStarted openedRun journalBytes decode readCall sameLocal sameChannel sameZones sameChannels sameState replaysTo isReplayed writeCall itemWords recordingBytes noRequests recordCall recordJournal digitCode decimalText isOther isZoneSound openZone sendStep receiveStep requestStep startStep gateStep reportText
+unfolding isEdition isTraffic hasGates isCount isOn has members requestedBy startedBy itemOf messageWord pushed movedDown popped allFree highestFull requestedAll isPair openCall answer isChannel localSound localsSound channelSound channelsSound stocks carsOnChannels partsSound hasStarted openedRun journalBytes decode readCall sameLocal sameChannel sameZones sameChannels sameState replaysTo isReplayed writeCall itemWords recordingBytes noRequests recordCall recordJournal digitCode decimalText isOther isZoneSound openZone sendStep receiveStep requestStep startStep gateStep reportText
 computed rows = answers rows
 
--- The table in three parts: as a whole it is beyond the 50,000,000 steps that one proof may take.
+-- The table in four parts: as a whole it is beyond the 50,000,000 steps that one proof may take.
 first-edges : answers firstEdges ≡ expectations firstEdges
 unfolding computed
 first-edges = refl
@@ -50,6 +51,10 @@ edition-edges = refl
 gate-edges : answers gates ≡ expectations gates
 unfolding computed
 gate-edges = refl
+
+search-edges : answers searches ≡ expectations searches
+unfolding computed
+search-edges = refl
 
 -- Where two lists of rows answer as expected, so do both together.
 answers-all : (xs ys : List Row) → answers (xs ++ ys) ≡ answers xs ++ answers ys
@@ -64,4 +69,6 @@ joined : (xs ys : List Row) → answers xs ≡ expectations xs → answers ys �
 joined xs ys e f = rw (answers-all xs ys, expectations-all xs ys, e, f) refl
 
 pub edges : answers table ≡ expectations table
-edges = joined firstEdges (editions ++ gates) first-edges (joined editions gates edition-edges gate-edges)
+edges =
+    joined firstEdges (editions ++ gates ++ searches) first-edges
+    (joined editions (gates ++ searches) edition-edges (joined gates searches gate-edges search-edges))

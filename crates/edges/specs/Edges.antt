@@ -1,4 +1,4 @@
--- The worked edges (docs/RULES.md, section 8) in one table, those of editions and of gates in the files beside this one. A run that a row
+-- The worked edges (docs/RULES.md, section 8) in one table, those of editions, of gates and of searches in the files beside this one. A run that a row
 -- begins with is opened or reached in an earlier row, but for those of `states` and `gateStates` and those of an edition that is not
 -- defined. Numbers with 0x are hexadecimal, as in the layouts.
 use mathlib.Core.Bool.{true, false}
@@ -16,6 +16,7 @@ use Rattle.journal.specs.Claims.{caseA}
 use Rattle.zone.proofs.Examples as zones
 use Rattle.edges.specs.Editions.{lent, editions}
 use Rattle.edges.specs.Gates.{gates}
+use Rattle.edges.specs.Searches.{searches}
 use Rattle.edges.specs.Rows.{
   Row,
   partRow,
@@ -504,4 +505,4 @@ firstEdges =
     ++ journals ++ states
 
 abbrev pub table : List Row
-table = firstEdges ++ editions ++ gates
+table = firstEdges ++ editions ++ gates ++ searches

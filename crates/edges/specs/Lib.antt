@@ -1,4 +1,5 @@
 pub mod Rows
 pub mod Editions
 pub mod Gates
+pub mod Searches
 pub mod Edges

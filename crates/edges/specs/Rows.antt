@@ -10,6 +10,8 @@ use Rattle.rules.specs.Site.{Item, message, request}
 use Rattle.rules.specs.declared.Checkpoint.{Checkpoint}
 use Rattle.rules.specs.declared.Checkpoint.the-variants.{None, Mutable, Permanent}
 use Rattle.rules.specs.declared.Local.{Local}
+use Rattle.rules.specs.Questions.{index}
+use Rattle.channel.specs.Channels.{highestFull}
 use Rattle.run.specs.Calls.{answer}
 use Rattle.run.specs.Lists.{after}
 use Rattle.run.specs.Opening.{termsAs, openingAs, openCall}
@@ -27,7 +29,8 @@ use Rattle.zone.proofs.Examples as zones
 use Rattle.report.specs.Report.{reportText}
 
 -- What a row looks at: an answer of the zone part; an opening; a call on a run, its recording or its journal, each after some calls on it; the
--- reading of a journal; its recording; the program's text of a journal. A row holds this and not its answer, so that the check computes each run only once.
+-- reading of a journal; its recording; the program's text of a journal; the search for a full channel from a zone to those of a set, after
+-- some calls on a run. A row holds this and not its answer, so that the check computes each run only once.
 pub data RowCall : Type 0 where
   Part : zones.Reply → RowCall
   Open : Opening → RowCall
@@ -37,6 +40,7 @@ pub data RowCall : Type 0 where
   Read : (journal : List ℕ) → RowCall
   RecordJournal : (journal lent : List ℕ) → RowCall
   Print : (journal : List ℕ) → RowCall
+  Search : Run → List SiteCall → (zone set : ℕ) → RowCall
 
 pub data Reply : Type 0 where
   part : zones.Reply → Reply
@@ -46,6 +50,7 @@ pub data Reply : Type 0 where
   reading : Reading → Reply
   journalRecorded : JournalOutput → Reply
   text : List ℕ → Reply
+  found : ℕ → Reply
 
 -- The answer, by the definitions that the contracts cite.
 abbrev pub reply : RowCall → Reply
@@ -57,6 +62,7 @@ reply (Write r cs lent) = output (writeCall (after cs r) lent)
 reply (Read journal) = reading (readCall journal)
 reply (RecordJournal journal lent) = journalRecorded (recordJournal journal lent)
 reply (Print journal) = text (reportText journal)
+reply (Search r cs zone set) = found (highestFull (after cs r .channels) (index zone) set)
 
 pub record Row : Type 0 where
   pub call : RowCall
@@ -121,6 +127,10 @@ recordsJournal journal lent n position number total bytes = record {
 -- What the program prints of a journal.
 abbrev pub prints : List ℕ → String → Row
 prints journal line = record { call = Print journal; expected = text (codes line) }
+
+-- A search after some calls on a run: the zone that would send, the set, and the number of the zone that is named, 0 for none.
+abbrev pub names : Run → List SiteCall → ℕ → ℕ → ℕ → Row
+names r cs zone set n = record { call = Search r cs zone set; expected = found n }
 
 -- A zone: its stock, dependency set, own events and checkpoint.
 abbrev pub zone : ℕ → ℕ → ℕ → Checkpoint → Local

@@ -1,6 +1,6 @@
 -- The members of a set of zones: in what order they stand, how many they are, and which sets a site of n zones has.
 use mathlib.Core.Path.{_≡_, refl, sym, ap, ap₂, _∙_}
-use mathlib.Core.Bool.{Bool, true, false, _&&_, not, cond, Bool·beq, and-true, and-false}
+use mathlib.Core.Bool.{Bool, true, false, _&&_, cond, and-true, and-false}
 use mathlib.Core.List.{List, [], _∷_, _++_}
 use Prim.Native.Nat.{ℕ, zero, suc, zero-le, _+_, _-_, _/_, _%_, _^_, _<_, _≤_}
 use native.Mathlib.Nat.{lt-of-le-of-lt, lt-of-lt-of-le, div-eq-of-lt, mod-eq-of-lt, mod-lt, add-zero, zero-add, add-comm, mod-one}
@@ -13,7 +13,7 @@ use lib.Pow.{pow-lt, pow-mono, pow-pos, mod-pow-add}
 use borrow.Author.Tests.{ne-eqb, eqb-true, eqb-false, lt-ltb, le-ltb, ltb-true, ltb-false}
 use Rattle.rules.specs.Below.{sumBelow}
 use Rattle.rules.specs.Sets.{has, nobody, only, union, difference, size, members, membersBelow}
-use Rattle.rules.proofs.Finite.{and-left, and-right, same, below, below₂, from-one}
+use Rattle.rules.proofs.Finite.{and-left, and-right, below, from-one}
 
 -- ---- the sets of a site of n zones
 
@@ -142,16 +142,6 @@ pub members-zero : members 0 ≡ []
 unfolding members has
 members-zero = refl
 
-pub lowest-has : (s : ℕ) → s < 256 → 0 < s → has s (trailingZeros 8 s) ≡ true
-unfolding has trailingZeros
-lowest-has s h p = same _ _ (from-one 255 (λ s. Bool·beq (has s (trailingZeros 8 s)) true) tt s h p)
-
 pub lowest-lt : (s : ℕ) → s < 256 → 0 < s → trailingZeros 8 s < 8
 unfolding trailingZeros
 lowest-lt s h p = ltb→lt _ _ (from-one 255 (λ s. ltb (trailingZeros 8 s) 8) tt s h p)
-
--- The set without its lowest member.
-pub rest-has : (s i : ℕ) → s < 256 → i < 8 → has (bitAnd s (s - 1)) i ≡ has s i && not (eqb i (trailingZeros 8 s))
-unfolding has trailingZeros
-rest-has s i h hi =
-    same _ _ (below₂ 256 8 (λ s i. Bool·beq (has (bitAnd s (s - 1)) i) (has s i && not (eqb i (trailingZeros 8 s)))) tt s i h hi)

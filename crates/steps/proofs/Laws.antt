@@ -18,9 +18,9 @@ use Rattle.rules.proofs.Members.{members-zero}
 use Rattle.rules.proofs.Sums.{sum-at}
 use Rattle.rules.proofs.AskLaws.{AllYes, numbers, lacks, not-among, yes-both, all-yes, ask-yes, ask-refused, ask-behind, ask-cases, ask-both}
 use Rattle.channel.specs.Words.{itemOf, carsIn, setIn, messageWord}
-use Rattle.channel.specs.Channels.{channelsAs, isChannel, channelIndex, lenOf, pushed, popped, firstOf, firstFull, allFree, requestedAll}
+use Rattle.channel.specs.Channels.{channelsAs, isChannel, channelIndex, lenOf, pushed, popped, firstOf, highestFull, allFree, requestedAll}
 use Rattle.channel.specs.declared.Channels.{Channels}
-use Rattle.channel.proofs.View.{all-free-none}
+use Rattle.channel.proofs.Search.{all-free-none, highest-nobody}
 use Rattle.local.specs.Requesting.{startedBy}
 use Rattle.local.specs.declared.Requesting.{Requesting}
 use Rattle.run.specs.Calls.{actor, isNamed, itemReceived, editionQuestions, ownGateQuestions, zoneAfter, channelsAfter, refused, granted, answer, firstReceived, recordOf}
@@ -117,17 +117,16 @@ module _ (terms : Terms) (from to cars : ℕ) (z : Local) (l : Channels) (starte
   send-0 k word flag zone after e covers h f g p q = rw (q, p, g, f, e, le-leb _ _ covers, lt-ltb _ _ (subst (λ (n : ℕ). lenOf l n < 16) e h))
 
 -- What the search for a full channel tells.
-module _ (l : Channels) (from to full : ℕ) (e : full ≡ firstFull l from to) where
+module _ (l : Channels) (from to full : ℕ) (e : full ≡ highestFull l from to) where
   pub some-full : full ≢ 0 → allFree l from to ≡ false
-  some-full h = sym (all-free-none l from to) ∙ ne-eqb _ _ (λ (q : firstFull l from to ≡ 0). h (e ∙ q))
+  some-full h = sym (all-free-none l from to) ∙ ne-eqb _ _ (λ (q : highestFull l from to ≡ 0). h (e ∙ q))
 
   pub none-full : full ≡ 0 → allFree l from to ≡ true
   none-full h = sym (all-free-none l from to) ∙ eq-eqb _ _ (sym e ∙ h)
 
 -- No request: no channel is asked, and none changes.
-none-asked : (l : Channels) (from to : ℕ) → to ≡ 0 → 0 ≡ firstFull l from to
-unfolding firstFull
-none-asked l from to h = rw (h, members-zero)
+none-asked : (l : Channels) (from to : ℕ) → to ≡ 0 → 0 ≡ highestFull l from to
+none-asked l from to h = rw (h, highest-nobody)
 
 none-requested : (l : Channels) (from to set : ℕ) → to ≡ 0 → l ≡ requestedAll l from to set
 unfolding requestedAll
@@ -141,7 +140,7 @@ module _ (terms : Terms) (from to : ℕ) (z : Local) (l : Channels) (started : B
 
   -- The item that stands first makes `got` of the zone.
   module _ (holds : lenOf l k ≢ 0) (got : Requesting) (takes : got ≡ itemReceived (terms .edition) (index from) (index to) (itemOf (firstOf l k)) z) (full : ℕ)
-      (search : full ≡ firstFull l (index to) (got .to)) where
+      (search : full ≡ highestFull l (index to) (got .to)) where
     targets-free : (b : Bool) → allFree l (index to) (got .to) ≡ b → allFree l (index to) (firstReceived terms (index from) (index to) z l .to) ≡ b
     targets-free b q =
         subst (λ (n : ℕ). allFree l (index to) (itemReceived (terms .edition) (index from) (index to) (itemOf (firstOf l n)) z .to) ≡ b) e
@@ -176,7 +175,7 @@ module _ (terms : Terms) (zone : ℕ) (z : Local) (l : Channels) (started : Bool
   start-11 o g h = rw (g, h)
 
   module _ (first : started ≡ false) (got : Requesting) (starts : got ≡ startedBy (index zone) z) (full : ℕ)
-      (search : full ≡ firstFull l (index zone) (got .to)) where
+      (search : full ≡ highestFull l (index zone) (got .to)) where
     pub start-10 : (o : Effect) → o ≡ unchanged 10 z → full ≢ 0 → record { effect = o; channels = l } ≡ ownEffect (Start zone) terms z l started held
     unfolding ownEffect
     start-10 o g h =

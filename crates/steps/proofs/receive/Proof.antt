@@ -36,10 +36,10 @@ holding c = c .before .before
 abbrev taken : tie.Else4 → tie.After-take
 taken c = c .before .before
 
-abbrev asking : tie.After-first-full → tie.Else4
+abbrev asking : tie.After-highest-full → tie.Else4
 asking c = c .before .before
 
-abbrev searched : tie.Else5 → tie.After-first-full
+abbrev searched : tie.Else5 → tie.After-highest-full
 searched c = c .before
 
 abbrev free : tie.After-pop2 → tie.Else5
@@ -144,11 +144,11 @@ returns-4 c = λ started held.
     receive-quiet _ _ _ _ _ started held _ (p .channel-index .ensures .0) (h .if3 .left) _ (t .take .ensures) (q .if4 .taken) _ (c .before .pop .ensures .1)
     ∙ behind-6 (told (start n)) _ _ _ _ started held tt (is-named n) (r .if2 .left)
 
-cast-first-full : tie.Need-cast-first-full
-cast-first-full c = search needs
+cast-highest-full : tie.Need-cast-highest-full
+cast-highest-full c = search needs
 
-first-full-requires : tie.Need-first-full-requires
-first-full-requires c κs = pair 8 _ _ (fits (roomy (indexed (holding (taken (c .before))))) .0) .to
+highest-full-requires : tie.Need-highest-full-requires
+highest-full-requires c κs = pair 8 _ _ (fits (roomy (indexed (holding (taken (c .before))))) .0) .to
 
 no-effect-requires-4 : tie.Need-no-effect-requires-4
 no-effect-requires-4 c κs = search needs
@@ -161,7 +161,7 @@ returns-5 c = λ started held.
     let p = indexed h in
     let r = roomy p in
     let n = named r in
-    receive-10 _ _ _ _ _ started held _ (p .channel-index .ensures .0) (h .if3 .left) _ (t .take .ensures) _ (f .first-full .ensures _) _
+    receive-10 _ _ _ _ _ started held _ (p .channel-index .ensures .0) (h .if3 .left) _ (t .take .ensures) _ (f .highest-full .ensures _) _
     (c .no-effect4 .ensures) (c .before .if5 .taken)
     ∙ behind-6 (told (start n)) _ _ _ _ started held tt (is-named n) (r .if2 .left)
 
@@ -185,7 +185,7 @@ returns-6 c = λ started held.
     let p = indexed h in
     let r = roomy p in
     let n = named r in
-    receive-0 _ _ _ _ _ started held _ (p .channel-index .ensures .0) (h .if3 .left) _ (t .take .ensures) _ (f .first-full .ensures _) _ _
+    receive-0 _ _ _ _ _ started held _ (p .channel-index .ensures .0) (h .if3 .left) _ (t .take .ensures) _ (f .highest-full .ensures _) _ _
     (i .if5 .left) (o .pop2 .ensures .1) (d .request-all .ensures)
     ∙ behind-6 (told (start n)) _ _ _ _ started held tt (is-named n) (r .if2 .left)
 
@@ -212,8 +212,8 @@ receive-spec =
     take-requires
     pop-requires
     returns-4
-    cast-first-full
-    first-full-requires
+    cast-highest-full
+    highest-full-requires
     no-effect-requires-4
     returns-5
     pop-requires-2

@@ -26,7 +26,7 @@ roomy c = c .before
 abbrev first : tie.After-start → tie.Else3
 first c = c .before
 
-abbrev begun : tie.After-first-full → tie.After-start
+abbrev begun : tie.After-highest-full → tie.After-start
 begun c = c .before .before
 
 abbrev free : tie.After-request-all → tie.Else4
@@ -76,11 +76,11 @@ sub-a c = zone-sited 8 _ (fits (roomy c)) .0
 start-requires : tie.Need-start-requires
 start-requires c κs = zone-sited 8 _ (fits (roomy c)) .1
 
-cast-first-full : tie.Need-cast-first-full
-cast-first-full c = search needs
+cast-highest-full : tie.Need-cast-highest-full
+cast-highest-full c = search needs
 
-first-full-requires : tie.Need-first-full-requires
-first-full-requires c κs = zone-sited 8 _ (fits (roomy (first (c .before)))) .1
+highest-full-requires : tie.Need-highest-full-requires
+highest-full-requires c κs = zone-sited 8 _ (fits (roomy (first (c .before)))) .1
 
 no-effect-requires-4 : tie.Need-no-effect-requires-4
 no-effect-requires-4 c κs = search needs
@@ -91,7 +91,7 @@ returns-4 c = λ held.
     let b = begun f in
     let r = roomy (first b) in
     let n = named r in
-    start-10 _ _ _ _ _ held (first b .if3 .left) _ (b .start .ensures) _ (f .first-full .ensures _) _ (c .no-effect4 .ensures) (c .before .if4 .taken)
+    start-10 _ _ _ _ _ held (first b .if3 .left) _ (b .start .ensures) _ (f .highest-full .ensures _) _ (c .no-effect4 .ensures) (c .before .if4 .taken)
     ∙ behind-6 (told (start n)) _ _ _ _ _ held tt (is-named n) (r .if2 .left)
 
 cast-request-all : tie.Need-cast-request-all
@@ -108,7 +108,7 @@ returns-5 c = λ held.
     let b = begun f in
     let r = roomy (first b) in
     let n = named r in
-    start-0 _ _ _ _ _ held (first b .if3 .left) _ (b .start .ensures) _ (f .first-full .ensures _) _ (i .if4 .left) (d .request-all .ensures)
+    start-0 _ _ _ _ _ held (first b .if3 .left) _ (b .start .ensures) _ (f .highest-full .ensures _) _ (i .if4 .left) (d .request-all .ensures)
     ∙ behind-6 (told (start n)) _ _ _ _ _ held tt (is-named n) (r .if2 .left)
 
 pub start-spec : {M : Type 1} → statement M
@@ -124,8 +124,8 @@ start-spec =
     returns-3
     sub-a
     start-requires
-    cast-first-full
-    first-full-requires
+    cast-highest-full
+    highest-full-requires
     no-effect-requires-4
     returns-4
     cast-request-all
