@@ -1,11 +1,13 @@
 -- The 16 places of one channel in the list of all: what a write and a move down there do to them and to the others.
 use mathlib.Core.Path.{_≡_, refl, sym, ap, _∙_}
 use mathlib.Core.List.{List, [], _∷_, _++_, tail}
-use mathlib.Core.Logic.{_≢_, _⊎_, inl, inr, ⊎-elim}
-use Prim.Native.Nat.{ℕ, zero, suc, _+_, _-_, _*_, _<_}
+use mathlib.Core.Logic.{_≢_, ⊎-elim}
+use Prim.Native.Nat.{ℕ, zero, suc, _+_, _-_, _*_, _<_, _≤_}
+use native.Mathlib.Nat.{eq-or-lt-of-le}
 use native.Mathlib.Omega.{arith}
 use lib.ListN.{length, take, drop, set, getD, length-take, length-drop, length-set}
 use lib.Seq.{take-set-le, drop-set-lt, take-set-lt, drop-set-add, getD-take, getD-drop}
+use Rattle.rules.proofs.Tests.{below?}
 use Rattle.channel.specs.Channels.{row, movedDown}
 
 pub row-length : (xs : List ℕ) (k : ℕ) → length xs ≡ 1024 → k < 64 → length (row xs k) ≡ 16
@@ -19,15 +21,8 @@ pub row-set : (xs : List ℕ) (k n x : ℕ) → n < 16 → row (set xs (k * 16 +
 row-set xs k n x h = ap (take 16) (drop-set-add (k * 16) xs n x) ∙ take-set-lt 16 (drop (k * 16) xs) n x h
 
 pub row-other : (xs : List ℕ) (k j n x : ℕ) → n < 16 → j ≢ k → row (set xs (k * 16 + n) x) j ≡ row xs j
-row-other xs k j n x h d = ⊎-elim below above (apart j k d)
+row-other xs k j n x h d = ⊎-elim below (λ (q : k ≤ j). ⊎-elim (λ (e : k ≡ j). absurd (d (sym e))) above (eq-or-lt-of-le q)) (below? j k)
   where
-    apart : (j k : ℕ) → j ≢ k → (j < k) ⊎ (k < j)
-    apart zero zero d = absurd (d refl)
-    apart zero (suc k) d = inl (omega arith)
-    apart (suc j) zero d = inr (omega arith)
-    apart (suc j) (suc k) d =
-        ⊎-elim (λ (e : j < k). inl (omega arith)) (λ (e : k < j). inr (omega arith)) (apart j k (λ e. d (ap suc e)))
-
     below : j < k → row (set xs (k * 16 + n) x) j ≡ row xs j
     below b =
         let m = k * 16 + n - j * 16 in

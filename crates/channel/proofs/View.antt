@@ -3,7 +3,7 @@
 use mathlib.Core.Path.{_≡_, refl, sym, ap, ap₂, _∙_}
 use mathlib.Core.Bool.{Bool, true, false, cond, _&&_, _||_, not, true≢false, and-false}
 use mathlib.Core.List.{List, [], _∷_, _++_, map, tail, map-append}
-use mathlib.Core.Logic.{_≢_}
+use mathlib.Core.Logic.{_≢_, inl, inr}
 use Prim.Native.Nat.{ℕ, zero, suc, _+_, _-_, _*_, _/_, _%_, _<_, _≤_}
 use native.Mathlib.Numerals.{add-one}
 use native.Mathlib.Omega.{arith}
@@ -14,6 +14,7 @@ use borrow.Author.Tests.{leb-true, leb-false, ltb-true, ltb-false, lt-ltb, le-lt
 use Rattle.rules.specs.Change.{on, join}
 use Rattle.rules.specs.Sets.{has, members, membersBelow}
 use Rattle.rules.specs.Site.{Item, message, request}
+use Rattle.rules.proofs.Tests.{and-left, and-right, Same, same?}
 use Rattle.channel.specs.Words.{itemOf, messageWord, requestWord}
 use Rattle.channel.specs.Channels.{channelsAs, Whole, Clean, channelIndex, lenOf, row, wordsOn, itemsOn, isFree, pushed, firstOf, movedDown, popped, freeBelow, allFree, sentEach, requestedAll}
 use Rattle.channel.specs.declared.Channels.{Channels}
@@ -75,26 +76,29 @@ push-full : (l : Channels) (k word : ℕ) → isFree l k ≡ false → pushed l 
 unfolding pushed
 push-full l k word f = rw (f)
 
-pub push-whole : (l : Channels) (k word : ℕ) → Whole l → Whole (pushed l k word)
+-- What holds of a full channel's lists as they are, and of those with the word, holds in either case.
+push-cases : (P : Channels → Type 0) (l : Channels) (k word : ℕ) → P l
+    → (isFree l k ≡ true → P (channelsAs (set (l .items) (k * 16 + lenOf l k) word) (set (l .lens) k (lenOf l k + 1)))) → P (pushed l k word)
 unfolding pushed
-push-whole l k word w = go (isFree l k) refl
+push-cases P l k word full joined = go (isFree l k) refl
   where
-    go : (p : Bool) → isFree l k ≡ p → Whole (pushed l k word)
-    go true e =
-        rw (e) (length-set (l .items) (k * 16 + lenOf l k) word ∙ w .0, length-set (l .lens) k (lenOf l k + 1) ∙ w .1)
-    go false e = rw (e) w
+    go : (t : Bool) → isFree l k ≡ t
+        → P (cond t (channelsAs (set (l .items) (k * 16 + lenOf l k) word) (set (l .lens) k (lenOf l k + 1))) l)
+    go true e = joined e
+    go false e = full
+
+pub push-whole : (l : Channels) (k word : ℕ) → Whole l → Whole (pushed l k word)
+push-whole l k word w =
+    push-cases Whole l k word w
+    (λ f. (length-set (l .items) (k * 16 + lenOf l k) word ∙ w .0, length-set (l .lens) k (lenOf l k + 1) ∙ w .1))
 
 pub len-push-same : (l : Channels) (k word : ℕ) → Whole l → k < 64 → isFree l k ≡ true → lenOf (pushed l k word) k ≡ lenOf l k + 1
 unfolding pushed
 len-push-same l k word w b f = rw (f) (getD-set-same (l .lens) k (lenOf l k + 1) 0 (omega (arith, w .1)))
 
 pub len-push-other : (l : Channels) (k j word : ℕ) → j ≢ k → lenOf (pushed l k word) j ≡ lenOf l j
-unfolding pushed
-len-push-other l k j word d = go (isFree l k) refl
-  where
-    go : (p : Bool) → isFree l k ≡ p → lenOf (pushed l k word) j ≡ lenOf l j
-    go true e = rw (e) (getD-set-other (l .lens) k j (lenOf l k + 1) 0 d)
-    go false e = rw (e)
+len-push-other l k j word d =
+    push-cases (λ c. lenOf c j ≡ lenOf l j) l k word refl (λ f. getD-set-other (l .lens) k j (lenOf l k + 1) 0 d)
 
 row-push-same : (l : Channels) (k word : ℕ) → isFree l k ≡ true
     → row (pushed l k word .items) k ≡ set (row (l .items) k) (lenOf l k) word
@@ -102,12 +106,9 @@ unfolding pushed
 row-push-same l k word f = rw (f) (row-set (l .items) k (lenOf l k) word (ltb-true (lenOf l k) 16 f))
 
 row-push-other : (l : Channels) (k j word : ℕ) → j ≢ k → row (pushed l k word .items) j ≡ row (l .items) j
-unfolding pushed
-row-push-other l k j word d = go (isFree l k) refl
-  where
-    go : (p : Bool) → isFree l k ≡ p → row (pushed l k word .items) j ≡ row (l .items) j
-    go true e = rw (e) (row-other (l .items) k j (lenOf l k) word (ltb-true (lenOf l k) 16 e) d)
-    go false e = rw (e)
+row-push-other l k j word d =
+    push-cases (λ c. row (c .items) j ≡ row (l .items) j) l k word refl
+    (λ f. row-other (l .items) k j (lenOf l k) word (ltb-true (lenOf l k) 16 f) d)
 
 pub items-push-same : (l : Channels) (k word : ℕ) → Whole l → k < 64 → isFree l k ≡ true
     → itemsOn (pushed l k word) k ≡ itemsOn l k ++ (itemOf word ∷ [])
@@ -194,10 +195,17 @@ items-length l k w b h =
 
 -- The places behind the last item hold 0, before and after.
 
-clean-kept : (l m : Channels) (j p : ℕ) → lenOf m j ≡ lenOf l j → row (m .items) j ≡ row (l .items) j → Clean l
-    → j < 64 → p < 16 → lenOf m j ≤ p → getD (m .items) (j * 16 + p) 0 ≡ 0
-clean-kept l m j p e r h hj hp f =
-    sym (row-at (m .items) j p hp) ∙ ap (λ (xs : List ℕ). getD xs p 0) r ∙ row-at (l .items) j p hp ∙ h j p hj hp (omega (arith, e))
+-- Where only channel k changes, it is enough that it is clean.
+clean-changed : (l m : Channels) (k : ℕ) → Clean l → ((p : ℕ) → k < 64 → p < 16 → lenOf m k ≤ p → getD (m .items) (k * 16 + p) 0 ≡ 0)
+    → ((j : ℕ) → j ≢ k → (lenOf m j ≡ lenOf l j) × (row (m .items) j ≡ row (l .items) j)) → Clean m
+clean-changed l m k h here others j p hj hp = go (same? j k)
+  where
+    go : Same j k → lenOf m j ≤ p → getD (m .items) (j * 16 + p) 0 ≡ 0
+    go (inl (e, _)) = rw (e) (here p (omega arith) hp)
+    go (inr (d, _)) = λ b.
+        let o = others j d in
+        sym (row-at (m .items) j p hp) ∙ ap (λ (xs : List ℕ). getD xs p 0) (o .1) ∙ row-at (l .items) j p hp
+        ∙ h j p hj hp (omega (arith, o .0))
 
 clean-pushed : (l : Channels) (k word p : ℕ) → Whole l → Clean l → isFree l k ≡ true
     → k < 64 → p < 16 → lenOf (pushed l k word) k ≤ p → getD (pushed l k word .items) (k * 16 + p) 0 ≡ 0
@@ -210,15 +218,10 @@ clean-pushed l k word p w h f hk hp b =
 pub push-clean : (l : Channels) (k word : ℕ) → Whole l → Clean l → Clean (pushed l k word)
 push-clean l k word w h = go (isFree l k) refl
   where
-    at : isFree l k ≡ true → (j p : ℕ) → j < 64 → p < 16 → (t : Bool) → eqb j k ≡ t
-        → lenOf (pushed l k word) j ≤ p → getD (pushed l k word .items) (j * 16 + p) 0 ≡ 0
-    at f j p hj hp true e = let d = eqb-true j k e in rw (d) (clean-pushed l k word p w h f (omega arith) hp)
-    at f j p hj hp false e =
-        let d = eqb-false j k e in
-        clean-kept l (pushed l k word) j p (len-push-other l k j word d) (row-push-other l k j word d) h hj hp
-
     go : (t : Bool) → isFree l k ≡ t → Clean (pushed l k word)
-    go true f = λ j p hj hp. at f j p hj hp (eqb j k) refl
+    go true f =
+        clean-changed l (pushed l k word) k h (λ p. clean-pushed l k word p w h f)
+        (λ j d. (len-push-other l k j word d, row-push-other l k j word d))
     go false f = rw (push-full l k word f) h
 
 clean-popped : (l : Channels) (k p : ℕ) → Whole l → Clean l → k < 64 → p < 16 → lenOf (popped l k) k ≤ p
@@ -240,13 +243,8 @@ clean-popped l k p w h hk hp b =
     go false e = let q = ltb-false p 15 e in getD-at (tail r) 0 [] 0 p (omega (arith, long))
 
 pub pop-clean : (l : Channels) (k : ℕ) → Whole l → Clean l → Clean (popped l k)
-pop-clean l k w h j p hj hp = go (eqb j k) refl
-  where
-    go : (t : Bool) → eqb j k ≡ t → lenOf (popped l k) j ≤ p → getD (popped l k .items) (j * 16 + p) 0 ≡ 0
-    go true e = let d = eqb-true j k e in rw (d) (clean-popped l k p w h (omega arith) hp)
-    go false e =
-        let d = eqb-false j k e in
-        clean-kept l (popped l k) j p (len-pop-other l k j d) (row-pop-other l k j d) h hj hp
+pop-clean l k w h =
+    clean-changed l (popped l k) k h (λ p. clean-popped l k p w h) (λ j d. (len-pop-other l k j d, row-pop-other l k j d))
 
 -- Equal contents are equal values.
 
@@ -355,10 +353,6 @@ sent-append : (xs ys : List ℕ) (l : Channels) (from word : ℕ)
 sent-append [] ys l from word = refl
 sent-append (k ∷ xs) ys l from word = sent-append xs ys (pushed l (channelIndex from k) word) from word
 
-both : (p q : Bool) → p && q ≡ true → (p ≡ true) × (q ≡ true)
-both true q e = (refl, e)
-both false q e = absurd (true≢false (sym e))
-
 next : (j n : ℕ) → j ≢ n → ltb j (suc n) ≡ ltb j n
 next j n d = go (ltb j n) refl
   where
@@ -395,13 +389,13 @@ module _ (l : Channels) (from to word : ℕ) (w : Whole l) where
     after-view : (n : ℕ) → n ≤ 8 → freeBelow n l from to ≡ true → (i j : ℕ) → j < 8
         → view (after n) (channelIndex i j) ≡ on (eqb i from && (ltb j n && has to j)) change (view l (channelIndex i j))
     after-view zero h f i j hj = rw (le-ltb j 0 (omega arith), and-false (eqb i from))
-    after-view (suc n) h f i j hj = go (after-view n (omega arith) (b .0) i j hj) (has to n) refl (eqb j n) refl
+    after-view (suc n) h f i j hj = go (after-view n (omega arith) below i j hj) (has to n) refl (eqb j n) refl
       where
-        b : (freeBelow n l from to ≡ true) × (not (has to n) || isFree l (channelIndex from n) ≡ true)
-        b = both (freeBelow n l from to) (not (has to n) || isFree l (channelIndex from n)) f
+        below : freeBelow n l from to ≡ true
+        below = and-left (freeBelow n l from to) (not (has to n) || isFree l (channelIndex from n)) f
 
         free : has to n ≡ true → isFree (after n) (channelIndex from n) ≡ true
-        free e = ap (λ (m : ℕ). ltb m 16) (after-above n n (omega arith)) ∙ (rw (e) at (b .1))
+        free e = ap (λ (m : ℕ). ltb m 16) (after-above n n (omega arith)) ∙ (rw (e) at (and-right (freeBelow n l from to) (not (has to n) || isFree l (channelIndex from n)) f))
 
         go : view (after n) (channelIndex i j) ≡ on (eqb i from && (ltb j n && has to j)) change (view l (channelIndex i j))
             → (t : Bool) → has to n ≡ t → (s : Bool) → eqb j n ≡ s
