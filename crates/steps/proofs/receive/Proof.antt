@@ -10,8 +10,7 @@ use Rattle.run.specs.Calls.{isPair}
 use Rattle.run.specs.declared.SiteCall.{SiteCall}
 use Rattle.run.specs.declared.SiteCall.the-variants.{Receive}
 use Rattle.run.proofs.Outcome.{pair, pair-low}
-use Rattle.steps.specs.InnerReady.{Fits}
-use Rattle.steps.proofs.Laws.{ready-fits, effect-5, effect-6, behind-6, receive-9, receive-10, receive-0, receive-quiet}
+use Rattle.steps.proofs.Laws.{effect-5, effect-6, Asked, asked, receive-9, receive-10, receive-0, receive-quiet}
 use borrow.Author.Needs.{needs}
 use Rattle.steps.proofs.receive.Statement.{statement}
 use Rattle.steps.proofs.receive.Tie as tie
@@ -48,15 +47,15 @@ free c = c .before .before .before
 abbrev off : tie.After-request-all → tie.After-pop2
 off c = c .before .before .before
 
--- The call, and what 5 and 6 leave: its zones are named, and there is room for what it takes.
+-- The call, and what 5 and 6 leave: its zones are named, what it takes fits, and its own questions decide.
 abbrev told : tie.Start → SiteCall
 told c = Receive (c .args .from) (c .args .to)
 
 is-named : (c : tie.Else1) → isPair (start c .args .terms .count) (start c .args .from) (start c .args .to) ≡ true
 is-named c = yes (c .before .is-pair .ensures) (c .if1 .left)
 
-fits : (c : tie.Else2) → let a = start (named c) .args in Fits (told (start (named c))) (a .z) (channelsAs (a .items .now) (a .lens .now))
-fits c = let n = named c in ready-fits _ _ (told (start n)) _ _ (start n .pre) (is-named n) (c .if2 .left)
+behind : (c : tie.Else2) → let a = start (named c) .args in Asked (told (start (named c))) (a .terms) (a .records) (a .z) (channelsAs (a .items .now) (a .lens .now))
+behind c = let n = named c in asked (told (start n)) _ _ _ _ (start n .pre) tt (is-named n) (c .if2 .left)
 
 pos : (n : ℕ) → n ≢ 0 → 0 < n
 pos n h = omega arith
@@ -81,10 +80,10 @@ returns-2 c = λ started held.
     effect-6 (told (start n)) _ _ _ _ started held tt (is-named n) _ (c .no-effect2 .ensures) (c .before .if2 .taken)
 
 sub-a : tie.Need-sub-a
-sub-a c = pair-low 8 _ _ (fits c .0) .0
+sub-a c = pair-low 8 _ _ (behind c .fits .0) .0
 
 sub-b : tie.Need-sub-b
-sub-b c = pair-low 8 _ _ (fits c .0) .1
+sub-b c = pair-low 8 _ _ (behind c .fits .0) .1
 
 cast-channel-index : tie.Need-cast-channel-index
 cast-channel-index c = search needs
@@ -93,7 +92,7 @@ cast-channel-index-2 : tie.Need-cast-channel-index-2
 cast-channel-index-2 c = search needs
 
 channel-index-requires : tie.Need-channel-index-requires
-channel-index-requires c κs = let p = pair 8 _ _ (fits c .0) in (p .from, p .to)
+channel-index-requires c κs = let p = pair 8 _ _ (behind c .fits .0) in (p .from, p .to)
 
 element-copy-out-if3 : tie.Need-element-copy-out-if3
 element-copy-out-if3 c = search needs
@@ -104,10 +103,8 @@ no-effect-requires-3 c κs = search needs
 returns-3 : tie.Need-returns-3
 returns-3 c = λ started held.
     let p = c .before .before .before in
-    let r = roomy p in
-    let n = named r in
     receive-9 _ _ _ _ _ started held _ (p .channel-index .ensures .0) _ (c .no-effect3 .ensures) (c .before .if3 .taken)
-    ∙ behind-6 (told (start n)) _ _ _ _ started held tt (is-named n) (r .if2 .left)
+    ∙ behind (roomy p) .own started held
 
 mul-word : tie.Need-mul-word
 mul-word c = search needs
@@ -122,7 +119,7 @@ take-requires : tie.Need-take-requires
 take-requires c κs =
     let h = c .before in
     let p = indexed h in
-    let f = fits (roomy p) in
+    let f = behind (roomy p) .fits in
     let a = start (named (roomy p)) .args in
     let q = pair 8 _ _ (f .0) in
     let e = p .channel-index .ensures .0 in
@@ -139,16 +136,14 @@ returns-4 c = λ started held.
     let t = q .before .before in
     let h = holding t in
     let p = indexed h in
-    let r = roomy p in
-    let n = named r in
     receive-quiet _ _ _ _ _ started held _ (p .channel-index .ensures .0) (h .if3 .left) _ (t .take .ensures) (q .if4 .taken) _ (c .before .pop .ensures .1)
-    ∙ behind-6 (told (start n)) _ _ _ _ started held tt (is-named n) (r .if2 .left)
+    ∙ behind (roomy p) .own started held
 
 cast-highest-full : tie.Need-cast-highest-full
 cast-highest-full c = search needs
 
 highest-full-requires : tie.Need-highest-full-requires
-highest-full-requires c κs = pair 8 _ _ (fits (roomy (indexed (holding (taken (c .before))))) .0) .to
+highest-full-requires c κs = pair 8 _ _ (behind (roomy (indexed (holding (taken (c .before))))) .fits .0) .to
 
 no-effect-requires-4 : tie.Need-no-effect-requires-4
 no-effect-requires-4 c κs = search needs
@@ -159,11 +154,9 @@ returns-5 c = λ started held.
     let t = taken (asking f) in
     let h = holding t in
     let p = indexed h in
-    let r = roomy p in
-    let n = named r in
     receive-10 _ _ _ _ _ started held _ (p .channel-index .ensures .0) (h .if3 .left) _ (t .take .ensures) _ (f .highest-full .ensures _) _
     (c .no-effect4 .ensures) (c .before .if5 .taken)
-    ∙ behind-6 (told (start n)) _ _ _ _ started held tt (is-named n) (r .if2 .left)
+    ∙ behind (roomy p) .own started held
 
 pop-requires-2 : tie.Need-pop-requires-2
 pop-requires-2 c κs = search needs
@@ -172,7 +165,7 @@ cast-request-all : tie.Need-cast-request-all
 cast-request-all c = search needs
 
 request-all-requires : tie.Need-request-all-requires
-request-all-requires c κs = pair 8 _ _ (fits (roomy (indexed (holding (taken (asking (searched (free (c .before .before)))))))) .0) .to
+request-all-requires c κs = pair 8 _ _ (behind (roomy (indexed (holding (taken (asking (searched (free (c .before .before)))))))) .fits .0) .to
 
 returns-6 : tie.Need-returns-6
 returns-6 c = λ started held.
@@ -183,11 +176,9 @@ returns-6 c = λ started held.
     let t = taken (asking f) in
     let h = holding t in
     let p = indexed h in
-    let r = roomy p in
-    let n = named r in
     receive-0 _ _ _ _ _ started held _ (p .channel-index .ensures .0) (h .if3 .left) _ (t .take .ensures) _ (f .highest-full .ensures _) _ _
     (i .if5 .left) (o .pop2 .ensures .1) (d .request-all .ensures)
-    ∙ behind-6 (told (start n)) _ _ _ _ started held tt (is-named n) (r .if2 .left)
+    ∙ behind (roomy p) .own started held
 
 pub receive-spec : {M : Type 1} → statement M
 receive-spec =

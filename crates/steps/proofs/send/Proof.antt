@@ -7,8 +7,7 @@ use Rattle.run.specs.Calls.{isPair}
 use Rattle.run.specs.declared.SiteCall.{SiteCall}
 use Rattle.run.specs.declared.SiteCall.the-variants.{Send}
 use Rattle.run.proofs.Outcome.{pair, pair-low}
-use Rattle.steps.specs.InnerReady.{Fits}
-use Rattle.steps.proofs.Laws.{ready-fits, effect-5, effect-6, behind-6, send-7, send-8, send-0}
+use Rattle.steps.proofs.Laws.{effect-5, effect-6, Asked, asked, send-7, send-8, send-0}
 use borrow.Author.Needs.{needs}
 use Rattle.steps.proofs.send.Statement.{statement}
 use Rattle.steps.proofs.send.Tie as tie
@@ -35,15 +34,15 @@ free c = c .before
 abbrev sends : tie.After-has-checkpoint → tie.After-send
 sends c = c .before
 
--- The call, and what 5 and 6 leave: its zones are named, and there is room for what it takes.
+-- The call, and what 5 and 6 leave: its zones are named, what it takes fits, and its own questions decide.
 abbrev told : tie.Start → SiteCall
 told c = Send (c .args .from) (c .args .to) (c .args .cars)
 
 is-named : (c : tie.Else1) → isPair (start c .args .terms .count) (start c .args .from) (start c .args .to) ≡ true
 is-named c = yes (c .before .is-pair .ensures) (c .if1 .left)
 
-fits : (c : tie.Else2) → let a = start (named c) .args in Fits (told (start (named c))) (a .z) (channelsAs (a .items .now) (a .lens .now))
-fits c = let n = named c in ready-fits _ _ (told (start n)) _ _ (start n .pre) (is-named n) (c .if2 .left)
+behind : (c : tie.Else2) → let a = start (named c) .args in Asked (told (start (named c))) (a .terms) (a .records) (a .z) (channelsAs (a .items .now) (a .lens .now))
+behind c = let n = named c in asked (told (start n)) _ _ _ _ (start n .pre) tt (is-named n) (c .if2 .left)
 
 is-pair-requires : tie.Need-is-pair-requires
 is-pair-requires c κs = search needs
@@ -69,24 +68,22 @@ no-effect-requires-3 c κs = search needs
 
 returns-3 : tie.Need-returns-3
 returns-3 c = λ started held.
-    let r = c .before .before .before in
-    let n = named r in
-    send-7 _ _ _ _ _ _ started held _ (c .no-effect3 .ensures) (c .before .if3 .taken) ∙ behind-6 (told (start n)) _ _ _ _ started held tt (is-named n) (r .if2 .left)
+    send-7 _ _ _ _ _ _ started held _ (c .no-effect3 .ensures) (c .before .if3 .taken) ∙ behind (c .before .before .before) .own started held
 
 sub-channel-index : tie.Need-sub-channel-index
-sub-channel-index c = pair-low 8 _ _ (fits (roomy c) .0) .0
+sub-channel-index c = pair-low 8 _ _ (behind (roomy c) .fits .0) .0
 
 cast-channel-index : tie.Need-cast-channel-index
 cast-channel-index c = search needs
 
 sub-channel-index-2 : tie.Need-sub-channel-index-2
-sub-channel-index-2 c = pair-low 8 _ _ (fits (roomy c) .0) .1
+sub-channel-index-2 c = pair-low 8 _ _ (behind (roomy c) .fits .0) .1
 
 cast-channel-index-2 : tie.Need-cast-channel-index-2
 cast-channel-index-2 c = search needs
 
 channel-index-requires : tie.Need-channel-index-requires
-channel-index-requires c κs = let p = pair 8 _ _ (fits (roomy c) .0) in (p .from, p .to)
+channel-index-requires c κs = let p = pair 8 _ _ (behind (roomy c) .fits .0) in (p .from, p .to)
 
 element-copy-out-if4 : tie.Need-element-copy-out-if4
 element-copy-out-if4 c = search needs
@@ -97,13 +94,11 @@ no-effect-requires-4 c κs = search needs
 returns-4 : tie.Need-returns-4
 returns-4 c = λ started held.
     let p = indexed (c .before .before) in
-    let r = roomy (covered p) in
-    let n = named r in
     send-8 _ _ _ _ _ _ started held _ _ (p .channel-index .ensures .0) (c .no-effect4 .ensures) (covered p .if3 .left) (c .before .if4 .taken)
-    ∙ behind-6 (told (start n)) _ _ _ _ started held tt (is-named n) (r .if2 .left)
+    ∙ behind (roomy (covered p)) .own started held
 
 send-requires : tie.Need-send-requires
-send-requires c κs = let v = covered (indexed (c .before)) in (v .if3 .left, fits (roomy v) .1)
+send-requires c κs = let v = covered (indexed (c .before)) in (v .if3 .left, behind (roomy v) .fits .1)
 
 has-checkpoint-requires : tie.Need-has-checkpoint-requires
 has-checkpoint-requires c κs = search needs
@@ -120,11 +115,9 @@ returns-5 c = λ started held.
     let m = sends (w .before) in
     let f = free m in
     let p = indexed (f .before) in
-    let r = roomy (covered p) in
-    let n = named r in
     send-0 _ _ _ _ _ _ started held _ _ _ _ _ (p .channel-index .ensures .0) (covered p .if3 .left) (f .if4 .left) (w .before .has-checkpoint .ensures)
     (w .message-word .ensures) (c .push .ensures) (m .send .ensures)
-    ∙ behind-6 (told (start n)) _ _ _ _ started held tt (is-named n) (r .if2 .left)
+    ∙ behind (roomy (covered p)) .own started held
 
 pub send-spec : {M : Type 1} → statement M
 send-spec =

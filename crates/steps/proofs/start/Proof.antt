@@ -7,8 +7,7 @@ use Rattle.channel.specs.Channels.{channelsAs}
 use Rattle.run.specs.declared.SiteCall.{SiteCall}
 use Rattle.run.specs.declared.SiteCall.the-variants.{Start}
 use Rattle.run.proofs.Outcome.{zone-sited}
-use Rattle.steps.specs.InnerReady.{Fits}
-use Rattle.steps.proofs.Laws.{ready-fits, effect-5, effect-6, behind-6, start-11, start-10, start-0}
+use Rattle.steps.proofs.Laws.{effect-5, effect-6, Asked, asked, start-11, start-10, start-0}
 use borrow.Author.Needs.{needs}
 use Rattle.steps.proofs.start.Statement.{statement}
 use Rattle.steps.proofs.start.Tie as tie
@@ -32,15 +31,15 @@ begun c = c .before .before
 abbrev free : tie.After-request-all → tie.Else4
 free c = c .before .before .before
 
--- The call, and what 5 and 6 leave: its zones are named, and there is room for what it takes.
+-- The call, and what 5 and 6 leave: its zones are named, what it takes fits, and its own questions decide.
 abbrev told : tie.Start → SiteCall
 told c = Start (c .args .zone)
 
 is-named : (c : tie.Else1) → isOn (start c .args .terms .count) (start c .args .zone) ≡ true
 is-named c = yes (c .before .is-on .ensures) (c .if1 .left)
 
-fits : (c : tie.Else2) → let a = start (named c) .args in Fits (told (start (named c))) (a .z) (channelsAs (a .items .now) (a .lens .now))
-fits c = let n = named c in ready-fits _ _ (told (start n)) _ _ (start n .pre) (is-named n) (c .if2 .left)
+behind : (c : tie.Else2) → let a = start (named c) .args in Asked (told (start (named c))) (a .terms) (a .records) (a .z) (channelsAs (a .items .now) (a .lens .now))
+behind c = let n = named c in asked (told (start n)) _ _ _ _ (start n .pre) tt (is-named n) (c .if2 .left)
 
 is-on-requires : tie.Need-is-on-requires
 is-on-requires c κs = search needs
@@ -66,21 +65,19 @@ no-effect-requires-3 c κs = search needs
 
 returns-3 : tie.Need-returns-3
 returns-3 c = λ held.
-    let r = c .before .before in
-    let n = named r in
-    start-11 _ _ _ _ _ held _ (c .no-effect3 .ensures) (c .before .if3 .taken) ∙ behind-6 (told (start n)) _ _ _ _ _ held tt (is-named n) (r .if2 .left)
+    start-11 _ _ _ _ _ held _ (c .no-effect3 .ensures) (c .before .if3 .taken) ∙ behind (c .before .before) .own _ held
 
 sub-a : tie.Need-sub-a
-sub-a c = zone-sited 8 _ (fits (roomy c)) .0
+sub-a c = zone-sited 8 _ (behind (roomy c) .fits) .0
 
 start-requires : tie.Need-start-requires
-start-requires c κs = zone-sited 8 _ (fits (roomy c)) .1
+start-requires c κs = zone-sited 8 _ (behind (roomy c) .fits) .1
 
 cast-highest-full : tie.Need-cast-highest-full
 cast-highest-full c = search needs
 
 highest-full-requires : tie.Need-highest-full-requires
-highest-full-requires c κs = zone-sited 8 _ (fits (roomy (first (c .before)))) .1
+highest-full-requires c κs = zone-sited 8 _ (behind (roomy (first (c .before))) .fits) .1
 
 no-effect-requires-4 : tie.Need-no-effect-requires-4
 no-effect-requires-4 c κs = search needs
@@ -89,16 +86,14 @@ returns-4 : tie.Need-returns-4
 returns-4 c = λ held.
     let f = c .before .before in
     let b = begun f in
-    let r = roomy (first b) in
-    let n = named r in
     start-10 _ _ _ _ _ held (first b .if3 .left) _ (b .start .ensures) _ (f .highest-full .ensures _) _ (c .no-effect4 .ensures) (c .before .if4 .taken)
-    ∙ behind-6 (told (start n)) _ _ _ _ _ held tt (is-named n) (r .if2 .left)
+    ∙ behind (roomy (first b)) .own _ held
 
 cast-request-all : tie.Need-cast-request-all
 cast-request-all c = search needs
 
 request-all-requires : tie.Need-request-all-requires
-request-all-requires c κs = zone-sited 8 _ (fits (roomy (first (begun (c .before .before .before))))) .1
+request-all-requires c κs = zone-sited 8 _ (behind (roomy (first (begun (c .before .before .before)))) .fits) .1
 
 returns-5 : tie.Need-returns-5
 returns-5 c = λ held.
@@ -106,10 +101,8 @@ returns-5 c = λ held.
     let i = free d in
     let f = i .before in
     let b = begun f in
-    let r = roomy (first b) in
-    let n = named r in
     start-0 _ _ _ _ _ held (first b .if3 .left) _ (b .start .ensures) _ (f .highest-full .ensures _) _ (i .if4 .left) (d .request-all .ensures)
-    ∙ behind-6 (told (start n)) _ _ _ _ _ held tt (is-named n) (r .if2 .left)
+    ∙ behind (roomy (first b)) .own _ held
 
 pub start-spec : {M : Type 1} → statement M
 start-spec =
