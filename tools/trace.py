@@ -4,7 +4,8 @@
 An edit is named there in full and in backquotes, `crate/label`, and stands in crates/CRATE/must-fail/LABEL.edit. It is an error if
 - a named edit does not exist, or an edit of the tree is not named;
 - a cell under "Shut out" names an edit in any other way: without backquotes, or by its label alone;
-- a path of the form crates/... that the document names does not exist.
+- a path of the form crates/... that the document names does not exist;
+- an edit has a line that rt passes over without a word: texts of two lines would be cut.
 
 What else is in backquotes, but for the first cell of a row, is a name: `name`, `crate::function`, `Type::method` or `Record.field`. It is
 an error if its crate does not declare it. The crate of a bare name is the one named last before it in its cell: by `crate::function`, or by
@@ -60,6 +61,14 @@ def unknown(text, names, types):
                 yield f"{quoted} is not declared in {crate or 'any crate'}"
 
 
+def cut_edits():
+    """The edits with a line that is no comment, file, old or new text."""
+    for path in sorted(ROOT.glob("crates/*/must-fail/*.edit")):
+        for number, line in enumerate(path.read_text(encoding="utf-8").splitlines(), 1):
+            if line and not line.startswith(("#", "file: ", "old: ", "new:")):
+                yield f"{path.relative_to(ROOT)}:{number}: rt passes over this line"
+
+
 def main():
     edits = {f"{p.parts[-3]}/{p.stem}" for p in ROOT.glob("crates/*/must-fail/*.edit")}
     labels = {e.split("/")[1] for e in edits}
@@ -97,6 +106,7 @@ def main():
     if not tables:
         wrong.append(f'docs/TRACE.md: no table has a column "{HEADING}"')
     wrong += [f"docs/TRACE.md does not name the edit {e}" for e in sorted(edits - named)]
+    wrong += cut_edits()
     if wrong:
         sys.exit("\n".join(wrong))
     print(f"docs/TRACE.md names each of the {len(edits)} must-fail edits, and what else it names is declared.")
