@@ -1,29 +1,29 @@
--- The zones of a set, highest first: the index of the highest, by the zeros before it, and the set without it. All is computed, of each of
--- the 256 sets.
+-- The zones of a set, highest first: the index of the highest, by the zeros before it in a word of 32 bits, and the set without it. All is
+-- computed, of each of the 256 sets.
 use mathlib.Core.Path.{_≡_, subst}
 use mathlib.Core.Bool.{Bool, true, _&&_, _||_, not, Bool·beq}
 use Prim.Native.Nat.{ℕ, _-_, _*_, _%_, _^_, _<_, _≤_}
-use lib.Bits.{bitXor}
+use lib.Bits.{bitAnd}
 use lib.Count.{leadingZeros}
 use lib.Dec.{T, eqb, leb, leb→le, ltb, ltb→lt}
 use Rattle.rules.specs.Sets.{has}
 use Rattle.rules.proofs.Finite.{same, allBelow, below, below₂, from-one}
 
 abbrev pub highest : ℕ → ℕ
-highest s = 7 - leadingZeros 8 s
+highest s = 31 - leadingZeros 32 s
 
 abbrev pub lower : ℕ → ℕ
-lower s = bitXor s (1 * 2 ^ highest s % 256)
+lower s = bitAnd s (2 ^ 32 - 1 - 1 * 2 ^ highest s % 2 ^ 32)
 
 -- What the laws are computed by, named once: `unfolding computed` unfolds all of it.
 computed : ℕ → Bool
 unfolding has leadingZeros
 computed s = has s (highest s)
 
--- There are at most 7 zeros before it, so that the subtraction does not fall below 0.
-pub leading-few : (s : ℕ) → s < 256 → 0 < s → leadingZeros 8 s ≤ 7
+-- There are at most 31 zeros before it, so that the subtraction does not fall below 0.
+pub leading-few : (s : ℕ) → s < 256 → 0 < s → leadingZeros 32 s ≤ 31
 unfolding computed
-leading-few s h p = leb→le _ _ (from-one 255 (λ s. leb (leadingZeros 8 s) 7) tt s h p)
+leading-few s h p = leb→le _ _ (from-one 255 (λ s. leb (leadingZeros 32 s) 31) tt s h p)
 
 pub highest-lt : (s : ℕ) → s < 256 → 0 < s → highest s < 8
 unfolding computed

@@ -119,22 +119,22 @@ pub fn pop(items: &mut [u16; WORDS], lens: &mut [u8; CHANNELS], k: usize) -> u16
     first
 }
 
-// The number of the highest zone of a set whose channel is full, by the zeros before it; 0 where all have a free place. Steps calls it
-// behind question 5, for a zone of a site.
+// The number of the highest zone of a set whose channel is full; 0 where all have a free place. The next zone to be looked at is told by the
+// zeros before it, of 32 bits, since a byte would be widened at each turn. Steps calls it behind question 5, for a zone of a site.
 pub fn highest_full(lens: &[u8; CHANNELS], from: usize, to: u8) -> u8
     requires { ⌜ from < mostZones ⌝ }
     ensures { λ r. ⌜
         ((items : List ℕ) → r ≡ highestFull (channelsAs items (now (lens .entry))) from to)
         ⌝ }
 {
-    let mut unseen = to;
+    let mut unseen = to as u32;
     while unseen != 0 {
-        let j = 7 - u8::leading_zeros(unseen);
+        let j = 31 - u32::leading_zeros(unseen);
         let k = channel_index(from, j as usize);
         if MOST_ITEMS <= lens[k] {
             return j as u8 + 1;
         }
-        unseen = unseen ^ (1u8 << j);
+        unseen = unseen & !(1u32 << j);
     }
     0
 }

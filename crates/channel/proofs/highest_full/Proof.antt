@@ -56,11 +56,8 @@ returns c = λ items.
     let l = looped (c .before) .loop in
     step-full _ _ (l .unseen) _ (l .inv .0) (some-left (c .before)) (c .before .before .channel-index .ensures .0) (c .if1 .taken) ∙ l .inv .1 items
 
-cast-unseen : tie.Need-cast-unseen Inv-loop μ-loop
-cast-unseen c = search needs
-
 shl-unseen : tie.Need-shl-unseen Inv-loop μ-loop
-shl-unseen c = site-zone (c .before)
+shl-unseen c = let h = site-zone (c .before) in omega arith
 
 loop-less : tie.Need-loop-less Inv-loop μ-loop
 loop-less c =
@@ -94,7 +91,6 @@ highest-full-spec =
     cast-result
     add-result
     returns
-    cast-unseen
     shl-unseen
     loop-less
     loop-again
