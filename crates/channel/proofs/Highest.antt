@@ -12,6 +12,7 @@ use Rattle.rules.proofs.Finite.{same, allBelow, below, below₂, from-one}
 abbrev pub highest : ℕ → ℕ
 highest s = 31 - leadingZeros 32 s
 
+-- By the complement of a one that is shifted to its place.
 abbrev pub lower : ℕ → ℕ
 lower s = bitAnd s (2 ^ 32 - 1 - 1 * 2 ^ highest s % 2 ^ 32)
 

@@ -110,7 +110,7 @@ module _ (l : Channels) (from to : ℕ) where
   unfolding highestFull allFree
   all-free-none = none-below 8
 
--- Nobody is to be sent a request: no channel is full.
+-- Nobody is to be sent a request: none is named.
 pub highest-nobody : (l : Channels) (from : ℕ) → highestFull l from nobody ≡ 0
 highest-nobody l from = highest-is l from nobody .free (λ i h e. absurd (false≢true (sym (has-off 0 0 i (omega arith) (omega arith)) ∙ e)))
 

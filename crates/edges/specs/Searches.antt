@@ -65,7 +65,7 @@ emptyWith events = runWith
 abbrev pub empty : Run
 empty = emptyWith 0 [] []
 
--- Its channels to the lowest and to the highest zone are full.
+-- The channels of zone 4 to the lowest and to the highest zone are full.
 abbrev pub ends : Run
 ends = emptyWith 32 (channel 4 1 (ofNoCars 16) ∷ channel 4 8 (ofNoCars 16) ∷ []) (replicate 16 0x1800 ++ replicate 16 0x1F00)
 

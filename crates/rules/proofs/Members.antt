@@ -6,25 +6,19 @@ use Prim.Native.Nat.{ℕ, zero, suc, zero-le, _+_, _-_, _/_, _%_, _^_, _<_, _≤
 use native.Mathlib.Nat.{lt-of-le-of-lt, lt-of-lt-of-le, div-eq-of-lt, mod-eq-of-lt, mod-lt, add-zero, zero-add, add-comm, mod-one}
 use native.Mathlib.Omega.{arith}
 use lib.Dec.{T, eqb, eqb→eq, ltb, ltb→lt, lit<}
-use lib.Bits.{bitAnd, or-lt, xor-lt, and-le-l}
+use lib.Bits.{bitAnd, xor-lt, and-le-l}
 use lib.Count.{ones, onesIn, ones-cat, trailingZeros}
 use lib.ListN.{length, length-append}
-use lib.Pow.{pow-lt, pow-mono, pow-pos, mod-pow-add}
+use lib.Pow.{pow-mono, pow-pos, mod-pow-add}
 use borrow.Author.Tests.{ne-eqb, eqb-true, eqb-false, lt-ltb, le-ltb, ltb-true, ltb-false}
 use Rattle.rules.specs.Below.{sumBelow}
-use Rattle.rules.specs.Sets.{has, nobody, only, union, difference, size, members, membersBelow}
+use Rattle.rules.specs.Sets.{has, nobody, difference, size, members, membersBelow}
 use Rattle.rules.proofs.Finite.{and-left, and-right, below, from-one}
 
 -- ---- the sets of a site of n zones
 
-pub within-union : (n a b : ℕ) → a < 2 ^ n → b < 2 ^ n → union a b < 2 ^ n
-within-union n a b h g = or-lt n a b h g
-
 pub within-difference : (n a b : ℕ) → a < 2 ^ n → difference a b < 2 ^ n
 within-difference n a b h = xor-lt n a (bitAnd a b) h (lt-of-le-of-lt (and-le-l a b) h)
-
-pub within-only : (n i : ℕ) → i < n → only i < 2 ^ n
-within-only n i h = pow-lt h
 
 -- No set of such a site has a zone that is not on it.
 pub has-off : (n s i : ℕ) → s < 2 ^ n → n ≤ i → has s i ≡ false

@@ -5,7 +5,7 @@ use libc::STDIN_FILENO;
 use libc::STDOUT_FILENO;
 use rules::ZONES;
 
-// The zone that is named, as a digit on a line; nothing for a zone that no site has.
+// The zone that is named, as a digit on a line. A sender that no site has, or an answer of two digits, would print nothing, and be missed.
 fn print(lens: &[u8; CHANNELS], from: u8, to: u8) {
     let at = from as usize;
     if ZONES <= at {
@@ -31,8 +31,9 @@ fn one() -> bool {
     true
 }
 
+// More turns than the gate has states.
 fn main() {
-    for _ in 0..100000u32 {
+    for _ in 0..1000000u32 {
         if !one() {
             return;
         }

@@ -224,16 +224,16 @@ module _ (c : SiteCall) (terms : Terms) (records : ℕ) (z : Local) (l : Channel
         roomy : ownEffect c terms z l started held ≡ outcomeOf (furtherQuestions c terms records z l started held) c terms z l
         roomy = rw (named, lt-ltb _ _ h)
 
--- What 5 and 6 leave of a call on zones and channels: what it takes fits, and its own questions decide.
-pub record Asked (c : SiteCall) (terms : Terms) (records : ℕ) (z : Local) (l : Channels) : Type 0 where
+-- What 5 and 6 leave of a call: what it takes fits, and its own questions decide, whatever the channels are.
+pub record Behind (c : SiteCall) (terms : Terms) (records : ℕ) (z : Local) (l : Channels) : Type 0 where
   pub fits : Fits c z l
-  pub own : (started : Bool) (held : ℕ) → ownEffect c terms z l started held ≡ effect c terms records z l started held
+  pub own : (m : Channels) (started : Bool) (held : ℕ) → ownEffect c terms z m started held ≡ effect c terms records z m started held
 
-pub asked : (c : SiteCall) (terms : Terms) (records : ℕ) (z : Local) (l : Channels) → Ready terms records (actor c) z l
-    → AllYes (editionQuestions c (terms .edition)) → isNamed (terms .count) c ≡ true → records < 1000 → Asked c terms records z l
-asked c terms records z l ready offered named room = record {
+pub behind-both : (c : SiteCall) (terms : Terms) (records : ℕ) (z : Local) (l : Channels) → Ready terms records (actor c) z l
+    → AllYes (editionQuestions c (terms .edition)) → isNamed (terms .count) c ≡ true → records < 1000 → Behind c terms records z l
+behind-both c terms records z l ready offered named room = record {
   fits = ready-fits terms records c z l ready named room;
-  own = λ started held. behind-6 c terms records z l started held offered named room;
+  own = λ m started held. behind-6 c terms records z m started held offered named room;
 }
 
 -- A gate call behind 6: its last question, and what is accepted.

@@ -6,7 +6,7 @@ use second::journal;
 use second::print::MOST_BYTES;
 use second::random::{drive, edition, stocks, Random};
 use second::recording;
-use second::site::{Call, Direction, Item, Run};
+use second::site::{Call, Direction, Item, Run, PLACES};
 use second::zone::{Body, Mark, Requests, Saved, Zone, NO_REQUESTS};
 use std::collections::BTreeMap;
 
@@ -976,5 +976,31 @@ fn random_lists_meet_every_question() {
             times >= 100 || number == 10,
             "{name} {number} in edition {edition}: {times}"
         );
+    }
+}
+
+/// The worked states of question 10's search (docs/RULES.md, "Edges"), in each edition: which zone
+/// is named after receipts on the full lines from zone 1, and what a start of zone 1 answers there.
+#[test]
+fn question_10_names_the_highest_full_line() {
+    for edition in EDITIONS {
+        let mut full = opened(edition, &[10, 20, 30]);
+        for other in [2, 3] {
+            assert_eq!(full.hand_over(other, 1, 1), 0);
+            assert_eq!(full.receipt(other, 1), 0);
+            for _ in 0..PLACES {
+                assert_eq!(full.hand_over(1, other, 0), 0);
+            }
+        }
+        let worked: [(&[u32], u32, u32); 4] =
+            [(&[], 3, 10), (&[3], 2, 10), (&[2], 3, 10), (&[3, 2], 0, 0)];
+        for (received, named, answer) in worked {
+            let mut run = full.clone();
+            for &zone in received {
+                assert_eq!(run.receipt(1, zone), 0);
+            }
+            assert_eq!(run.highest_full(0, 6), named);
+            assert_eq!(run.start(1), answer);
+        }
     }
 }

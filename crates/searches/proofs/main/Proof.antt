@@ -1,15 +1,14 @@
 -- `searches::main` ends: its turns are counted.
 use borrow.Author.Needs.{needs}
 use Prim.Native.Nat.{_-_, _≤_}
-use native.Mathlib.Omega.{arith}
 use Rattle.searches.proofs.main.Statement.{statement}
 use Rattle.searches.proofs.main.Tie as tie
 
 abbrev Inv-loop : tie.InvT-loop
-Inv-loop counter₀ counter = counter ≤ 100000
+Inv-loop counter₀ counter = counter ≤ 1000000
 
 abbrev μ-loop : tie.MeasureT-loop
-μ-loop counter₀ counter = 100000 - counter
+μ-loop counter₀ counter = 1000000 - counter
 
 loop-holds : tie.Need-loop-holds Inv-loop μ-loop
 loop-holds c = search needs

@@ -8,7 +8,7 @@ use Rattle.rules.proofs.Tests.{no, yes}
 use Rattle.run.specs.declared.SiteCall.{SiteCall}
 use Rattle.run.specs.declared.SiteCall.the-variants.{Gate}
 use Rattle.run.proofs.Outcome.{zone-sited}
-use Rattle.steps.proofs.Laws.{ready-fits, weighed-few, weighed-stock, gate-15, effect-5, effect-6, behind-6, gate-refused, gate-0, gate-fits}
+use Rattle.steps.proofs.Laws.{weighed-few, weighed-stock, gate-15, effect-5, effect-6, Behind, behind-both, gate-refused, gate-0, gate-fits}
 use borrow.Author.Needs.{needs}
 use Rattle.steps.proofs.gate.Statement.{statement}
 use Rattle.steps.proofs.gate.Tie as tie
@@ -29,6 +29,7 @@ roomy c = c .before
 abbrev asked : tie.Else4 → tie.After-gate-refusal
 asked c = c .before
 
+-- The call, and what 15, 5 and 6 leave: its zone is named, what it takes fits, and its own question decides.
 abbrev told : tie.Start → SiteCall
 told c = Gate (c .args .direction) (c .args .zone) (c .args .cars)
 
@@ -37,6 +38,12 @@ is-offered c = yes (c .before .has-gates .ensures) (c .if1 .left)
 
 is-named : (c : tie.Else2) → isOn (start (offered c) .args .terms .count) (start (offered c) .args .zone) ≡ true
 is-named c = yes (c .before .is-on .ensures) (c .if2 .left)
+
+behind : (c : tie.Else3) → let s = start (offered (named c)) in Behind (told s) (s .args .terms) (s .args .records) (s .args .z) (s .pre .channels)
+behind c =
+    let n = named c in
+    let o = offered n in
+    behind-both (told (start o)) _ _ _ _ (start o .pre .ready) (is-offered o, tt) (is-named n) (c .if3 .left)
 
 -- The zone is on the site, so that its stock is part of what is held.
 stock : (c : tie.Else3) → let a = start (offered (named c)) .args in a .z .stock ≤ a .held
@@ -85,30 +92,23 @@ no-effect-requires-4 c κs = search needs
 returns-4 : tie.Need-returns-4
 returns-4 c = λ l started.
     let a = c .before .before in
-    let r = roomy a in
-    let n = named r in
-    let o = offered n in
     gate-refused _ _ _ _ _ l started _ _ (a .gate-refusal .ensures) _ (c .no-effect4 .ensures) (c .before .if4 .taken)
-    ∙ behind-6 (told (start o)) _ _ _ l started _ (is-offered o, tt) (is-named n) (r .if3 .left)
+    ∙ behind (roomy a) .own l started _
 
 gate-requires : tie.Need-gate-requires
 gate-requires c κs =
     let a = asked c in
     let r = roomy a in
-    let n = named r in
-    let s = start (offered n) in
+    let s = start (offered (named r)) in
     let f = gate-fits (s .args .terms) (s .args .direction) (s .args .zone) (s .args .cars) (s .args .z) (s .pre .channels) true _ _ (a .gate-refusal .ensures) (c .if4 .left) (stock r) (weighed-few _ _ _ _ _ (s .pre)) in
-    (f .0, f .1, ready-fits _ _ (told s) _ (s .pre .channels) (s .pre .ready) (is-named n) (r .if3 .left))
+    (f .0, f .1, behind r .fits)
 
 returns-5 : tie.Need-returns-5
 returns-5 c = λ l started.
     let p = c .before in
     let a = asked p in
-    let r = roomy a in
-    let n = named r in
-    let o = offered n in
     gate-0 _ _ _ _ _ l started _ _ (a .gate-refusal .ensures) _ (p .if4 .left) (c .gate .ensures)
-    ∙ behind-6 (told (start o)) _ _ _ l started _ (is-offered o, tt) (is-named n) (r .if3 .left)
+    ∙ behind (roomy a) .own l started _
 
 pub gate-spec : {M : Type 1} → statement M
 gate-spec =

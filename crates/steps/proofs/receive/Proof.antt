@@ -10,7 +10,7 @@ use Rattle.run.specs.Calls.{isPair}
 use Rattle.run.specs.declared.SiteCall.{SiteCall}
 use Rattle.run.specs.declared.SiteCall.the-variants.{Receive}
 use Rattle.run.proofs.Outcome.{pair, pair-low}
-use Rattle.steps.proofs.Laws.{effect-5, effect-6, Asked, asked, receive-9, receive-10, receive-0, receive-quiet}
+use Rattle.steps.proofs.Laws.{effect-5, effect-6, Behind, behind-both, receive-9, receive-10, receive-0, receive-quiet}
 use borrow.Author.Needs.{needs}
 use Rattle.steps.proofs.receive.Statement.{statement}
 use Rattle.steps.proofs.receive.Tie as tie
@@ -54,8 +54,8 @@ told c = Receive (c .args .from) (c .args .to)
 is-named : (c : tie.Else1) → isPair (start c .args .terms .count) (start c .args .from) (start c .args .to) ≡ true
 is-named c = yes (c .before .is-pair .ensures) (c .if1 .left)
 
-behind : (c : tie.Else2) → let a = start (named c) .args in Asked (told (start (named c))) (a .terms) (a .records) (a .z) (channelsAs (a .items .now) (a .lens .now))
-behind c = let n = named c in asked (told (start n)) _ _ _ _ (start n .pre) tt (is-named n) (c .if2 .left)
+behind : (c : tie.Else2) → let a = start (named c) .args in Behind (told (start (named c))) (a .terms) (a .records) (a .z) (channelsAs (a .items .now) (a .lens .now))
+behind c = let n = named c in behind-both (told (start n)) _ _ _ _ (start n .pre) tt (is-named n) (c .if2 .left)
 
 pos : (n : ℕ) → n ≢ 0 → 0 < n
 pos n h = omega arith
@@ -104,7 +104,7 @@ returns-3 : tie.Need-returns-3
 returns-3 c = λ started held.
     let p = c .before .before .before in
     receive-9 _ _ _ _ _ started held _ (p .channel-index .ensures .0) _ (c .no-effect3 .ensures) (c .before .if3 .taken)
-    ∙ behind (roomy p) .own started held
+    ∙ behind (roomy p) .own _ started held
 
 mul-word : tie.Need-mul-word
 mul-word c = search needs
@@ -137,7 +137,7 @@ returns-4 c = λ started held.
     let h = holding t in
     let p = indexed h in
     receive-quiet _ _ _ _ _ started held _ (p .channel-index .ensures .0) (h .if3 .left) _ (t .take .ensures) (q .if4 .taken) _ (c .before .pop .ensures .1)
-    ∙ behind (roomy p) .own started held
+    ∙ behind (roomy p) .own _ started held
 
 cast-highest-full : tie.Need-cast-highest-full
 cast-highest-full c = search needs
@@ -156,7 +156,7 @@ returns-5 c = λ started held.
     let p = indexed h in
     receive-10 _ _ _ _ _ started held _ (p .channel-index .ensures .0) (h .if3 .left) _ (t .take .ensures) _ (f .highest-full .ensures _) _
     (c .no-effect4 .ensures) (c .before .if5 .taken)
-    ∙ behind (roomy p) .own started held
+    ∙ behind (roomy p) .own _ started held
 
 pop-requires-2 : tie.Need-pop-requires-2
 pop-requires-2 c κs = search needs
@@ -178,7 +178,7 @@ returns-6 c = λ started held.
     let p = indexed h in
     receive-0 _ _ _ _ _ started held _ (p .channel-index .ensures .0) (h .if3 .left) _ (t .take .ensures) _ (f .highest-full .ensures _) _ _
     (i .if5 .left) (o .pop2 .ensures .1) (d .request-all .ensures)
-    ∙ behind (roomy p) .own started held
+    ∙ behind (roomy p) .own _ started held
 
 pub receive-spec : {M : Type 1} → statement M
 receive-spec =

@@ -7,7 +7,7 @@ use Rattle.run.specs.Calls.{isPair}
 use Rattle.run.specs.declared.SiteCall.{SiteCall}
 use Rattle.run.specs.declared.SiteCall.the-variants.{Send}
 use Rattle.run.proofs.Outcome.{pair, pair-low}
-use Rattle.steps.proofs.Laws.{effect-5, effect-6, Asked, asked, send-7, send-8, send-0}
+use Rattle.steps.proofs.Laws.{effect-5, effect-6, Behind, behind-both, send-7, send-8, send-0}
 use borrow.Author.Needs.{needs}
 use Rattle.steps.proofs.send.Statement.{statement}
 use Rattle.steps.proofs.send.Tie as tie
@@ -41,8 +41,8 @@ told c = Send (c .args .from) (c .args .to) (c .args .cars)
 is-named : (c : tie.Else1) → isPair (start c .args .terms .count) (start c .args .from) (start c .args .to) ≡ true
 is-named c = yes (c .before .is-pair .ensures) (c .if1 .left)
 
-behind : (c : tie.Else2) → let a = start (named c) .args in Asked (told (start (named c))) (a .terms) (a .records) (a .z) (channelsAs (a .items .now) (a .lens .now))
-behind c = let n = named c in asked (told (start n)) _ _ _ _ (start n .pre) tt (is-named n) (c .if2 .left)
+behind : (c : tie.Else2) → let a = start (named c) .args in Behind (told (start (named c))) (a .terms) (a .records) (a .z) (channelsAs (a .items .now) (a .lens .now))
+behind c = let n = named c in behind-both (told (start n)) _ _ _ _ (start n .pre) tt (is-named n) (c .if2 .left)
 
 is-pair-requires : tie.Need-is-pair-requires
 is-pair-requires c κs = search needs
@@ -68,7 +68,7 @@ no-effect-requires-3 c κs = search needs
 
 returns-3 : tie.Need-returns-3
 returns-3 c = λ started held.
-    send-7 _ _ _ _ _ _ started held _ (c .no-effect3 .ensures) (c .before .if3 .taken) ∙ behind (c .before .before .before) .own started held
+    send-7 _ _ _ _ _ _ started held _ (c .no-effect3 .ensures) (c .before .if3 .taken) ∙ behind (c .before .before .before) .own _ started held
 
 sub-channel-index : tie.Need-sub-channel-index
 sub-channel-index c = pair-low 8 _ _ (behind (roomy c) .fits .0) .0
@@ -95,7 +95,7 @@ returns-4 : tie.Need-returns-4
 returns-4 c = λ started held.
     let p = indexed (c .before .before) in
     send-8 _ _ _ _ _ _ started held _ _ (p .channel-index .ensures .0) (c .no-effect4 .ensures) (covered p .if3 .left) (c .before .if4 .taken)
-    ∙ behind (roomy (covered p)) .own started held
+    ∙ behind (roomy (covered p)) .own _ started held
 
 send-requires : tie.Need-send-requires
 send-requires c κs = let v = covered (indexed (c .before)) in (v .if3 .left, behind (roomy v) .fits .1)
@@ -117,7 +117,7 @@ returns-5 c = λ started held.
     let p = indexed (f .before) in
     send-0 _ _ _ _ _ _ started held _ _ _ _ _ (p .channel-index .ensures .0) (covered p .if3 .left) (f .if4 .left) (w .before .has-checkpoint .ensures)
     (w .message-word .ensures) (c .push .ensures) (m .send .ensures)
-    ∙ behind (roomy (covered p)) .own started held
+    ∙ behind (roomy (covered p)) .own _ started held
 
 pub send-spec : {M : Type 1} → statement M
 send-spec =

@@ -7,7 +7,7 @@ use Rattle.channel.specs.Channels.{channelsAs}
 use Rattle.run.specs.declared.SiteCall.{SiteCall}
 use Rattle.run.specs.declared.SiteCall.the-variants.{Start}
 use Rattle.run.proofs.Outcome.{zone-sited}
-use Rattle.steps.proofs.Laws.{effect-5, effect-6, Asked, asked, start-11, start-10, start-0}
+use Rattle.steps.proofs.Laws.{effect-5, effect-6, Behind, behind-both, start-11, start-10, start-0}
 use borrow.Author.Needs.{needs}
 use Rattle.steps.proofs.start.Statement.{statement}
 use Rattle.steps.proofs.start.Tie as tie
@@ -38,8 +38,8 @@ told c = Start (c .args .zone)
 is-named : (c : tie.Else1) → isOn (start c .args .terms .count) (start c .args .zone) ≡ true
 is-named c = yes (c .before .is-on .ensures) (c .if1 .left)
 
-behind : (c : tie.Else2) → let a = start (named c) .args in Asked (told (start (named c))) (a .terms) (a .records) (a .z) (channelsAs (a .items .now) (a .lens .now))
-behind c = let n = named c in asked (told (start n)) _ _ _ _ (start n .pre) tt (is-named n) (c .if2 .left)
+behind : (c : tie.Else2) → let a = start (named c) .args in Behind (told (start (named c))) (a .terms) (a .records) (a .z) (channelsAs (a .items .now) (a .lens .now))
+behind c = let n = named c in behind-both (told (start n)) _ _ _ _ (start n .pre) tt (is-named n) (c .if2 .left)
 
 is-on-requires : tie.Need-is-on-requires
 is-on-requires c κs = search needs
@@ -65,7 +65,7 @@ no-effect-requires-3 c κs = search needs
 
 returns-3 : tie.Need-returns-3
 returns-3 c = λ held.
-    start-11 _ _ _ _ _ held _ (c .no-effect3 .ensures) (c .before .if3 .taken) ∙ behind (c .before .before) .own _ held
+    start-11 _ _ _ _ _ held _ (c .no-effect3 .ensures) (c .before .if3 .taken) ∙ behind (c .before .before) .own _ _ held
 
 sub-a : tie.Need-sub-a
 sub-a c = zone-sited 8 _ (behind (roomy c) .fits) .0
@@ -87,7 +87,7 @@ returns-4 c = λ held.
     let f = c .before .before in
     let b = begun f in
     start-10 _ _ _ _ _ held (first b .if3 .left) _ (b .start .ensures) _ (f .highest-full .ensures _) _ (c .no-effect4 .ensures) (c .before .if4 .taken)
-    ∙ behind (roomy (first b)) .own _ held
+    ∙ behind (roomy (first b)) .own _ _ held
 
 cast-request-all : tie.Need-cast-request-all
 cast-request-all c = search needs
@@ -102,7 +102,7 @@ returns-5 c = λ held.
     let f = i .before in
     let b = begun f in
     start-0 _ _ _ _ _ held (first b .if3 .left) _ (b .start .ensures) _ (f .highest-full .ensures _) _ (i .if4 .left) (d .request-all .ensures)
-    ∙ behind (roomy (first b)) .own _ held
+    ∙ behind (roomy (first b)) .own _ _ held
 
 pub start-spec : {M : Type 1} → statement M
 start-spec =

@@ -1,8 +1,9 @@
 //! Writes states of the lines to one file and what the search for a full line names in each to
-//! another: the few that are stored, or one for every set and every choice of full lines.
+//! another: the few that are stored, or one for every sender, set and choice of full lines.
 
 use second::random::Random;
 use second::site::{highest_full, Run, PLACES};
+use second::zone::only;
 
 const SEED: u64 = 2_026;
 
@@ -30,12 +31,12 @@ impl Search {
 fn main() {
     let arguments: Vec<String> = std::env::args().collect();
     let [_, which, states, answers] = &arguments[..] else {
-        eprintln!("usage: searches stored|every STATES-FILE ANSWERS-FILE");
-        std::process::exit(2);
+        usage()
     };
     let searches = match which.as_str() {
         "stored" => stored(),
-        _ => every(),
+        "every" => every(),
+        _ => usage(),
     };
     let bytes: Vec<u8> = searches.iter().flat_map(Search::bytes).collect();
     let lines: String = searches
@@ -47,7 +48,12 @@ fn main() {
     println!("searches, {which}: {}", searches.len());
 }
 
-/// The search of zone 1 of a run among zones 2 and 3.
+fn usage() -> ! {
+    eprintln!("usage: searches stored|every STATES-FILE ANSWERS-FILE");
+    std::process::exit(2);
+}
+
+/// The search that a start of zone 1 of a run makes: among the others that it has heard.
 fn search(run: &Run) -> Search {
     let items = run
         .lines
@@ -56,7 +62,7 @@ fn search(run: &Run) -> Search {
     Search {
         items,
         from: 0,
-        set: 6,
+        set: run.zones[0].heard & !only(1),
     }
 }
 
@@ -90,26 +96,33 @@ fn stored() -> Vec<Search> {
     searches
 }
 
-/// For each set and each choice of full lines, of a zone drawn: full ones have 16 items or more,
-/// others fewer, and the lines of other zones any number.
+/// For each sender, set and choice of full lines: full ones have 16 items or more, others fewer, and
+/// the lines of other zones any number.
 fn every() -> Vec<Search> {
     let mut random = Random::new(SEED);
     let mut searches = Vec::new();
-    for set in 0..=255 {
-        for full in 0..=255u8 {
-            let from = random.below(8);
-            let mut items = [[0; 8]; 8].map(|row| row.map(|_: u8| random.below(256) as u8));
-            for (to, length) in items[from].iter_mut().enumerate() {
-                *length = match full >> to & 1 {
-                    1 if random.chance(50) => PLACES as u8,
-                    1 => random.within(16, 255) as u8,
-                    _ if random.chance(50) => PLACES as u8 - 1,
-                    _ => random.within(0, 15) as u8,
-                };
+    for from in 0..8 {
+        for set in 0..=255 {
+            for full in 0..=255 {
+                let items = lines(&mut random, from, full);
+                let from = from as u8;
+                searches.push(Search { items, from, set });
             }
-            let from = from as u8;
-            searches.push(Search { items, from, set });
         }
     }
     searches
+}
+
+/// Lines of which those from a zone are full to the zones of a set alone.
+fn lines(random: &mut Random, from: usize, full: u8) -> [[u8; 8]; 8] {
+    let mut items = [[0; 8]; 8].map(|row| row.map(|_: u8| random.below(256) as u8));
+    for (to, length) in items[from].iter_mut().enumerate() {
+        *length = match full >> to & 1 {
+            1 if random.chance(50) => PLACES as u8,
+            1 => random.within(16, 255) as u8,
+            _ if random.chance(50) => PLACES as u8 - 1,
+            _ => random.within(0, 15) as u8,
+        };
+    }
+    items
 }
