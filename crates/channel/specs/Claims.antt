@@ -19,7 +19,7 @@ pub record IsHighestFull (l : Channels) (from to found : ℕ) : Type 0 where
   pub member : found ≢ 0 → (found ≤ mostZones) × (has to (index found) ≡ true)
   -- its channel is full,
   pub full : found ≢ 0 → isFree l (channelIndex from (index found)) ≡ false
-  -- and those of the set with a higher number have a place;
+  -- and those of the set with a higher number, which is i + 1 at index i, have a place;
   pub higher : (i : ℕ) → i < mostZones → found < i + 1 → has to i ≡ true → isFree l (channelIndex from i) ≡ true
   -- "and none exactly when all have a place".
   pub none : found ≡ 0 → EachFree l from to
