@@ -5,7 +5,7 @@ use mathlib.Core.Logic.{_≢_, _⊎_, inl, inr}
 use Prim.Native.Nat.{ℕ, zero, suc, _+_, _-_, _<_, _≤_}
 use native.Mathlib.Omega.{arith}
 use lib.Dec.{eqb}
-use borrow.Author.Tests.{lt-ltb, le-ltb, ne-eqb, not-false}
+use borrow.Author.Tests.{lt-ltb, le-ltb, eq-eqb, ne-eqb, not-false}
 use Rattle.rules.specs.Questions.{index}
 use Rattle.rules.specs.Sets.{has, nobody}
 use Rattle.rules.proofs.Members.{has-off}
@@ -110,9 +110,18 @@ module _ (l : Channels) (from to : ℕ) where
   unfolding highestFull allFree
   all-free-none = none-below 8
 
+  pub some-full : (full : ℕ) → full ≡ highestFull l from to → full ≢ 0 → allFree l from to ≡ false
+  some-full full e h = sym all-free-none ∙ ne-eqb _ _ (λ (q : highestFull l from to ≡ 0). h (e ∙ q))
+
+  pub none-full : (full : ℕ) → full ≡ highestFull l from to → full ≡ 0 → allFree l from to ≡ true
+  none-full full e h = sym all-free-none ∙ eq-eqb _ _ (sym e ∙ h)
+
 -- Nobody is to be sent a request: none is named.
 pub highest-nobody : (l : Channels) (from : ℕ) → highestFull l from nobody ≡ 0
 highest-nobody l from = highest-is l from nobody .free (λ i h e. absurd (false≢true (sym (has-off 0 0 i (omega arith) (omega arith)) ∙ e)))
+
+pub free-nobody : (l : Channels) (from : ℕ) → allFree l from nobody ≡ true
+free-nobody l from = none-full l from nobody 0 (sym (highest-nobody l from)) refl
 
 -- The highest zone of a set is looked at, by the channel's index k: where it is full the search ends, else it goes on with the lower ones.
 module _ (l : Channels) (from s k : ℕ) (h : s < 256) (p : 0 < s) (e : k ≡ channelIndex from (highest s)) where

@@ -12,8 +12,9 @@ use lib.ListN.{length, take, set, getD, length-take, length-set, length-map, Lis
 use lib.Seq.{getD-set-same, getD-set-other, take-suc-set, take-append-le, getD-at, getD-take, drop-cons, ext-getD}
 use borrow.Author.Tests.{leb-true, leb-false, ltb-true, ltb-false, lt-ltb, le-ltb, le-leb, lt-leb, eqb-true, eqb-false, eq-eqb, ne-eqb}
 use Rattle.rules.specs.Change.{on, join}
-use Rattle.rules.specs.Sets.{has, members, membersBelow}
+use Rattle.rules.specs.Sets.{has, nobody, members, membersBelow}
 use Rattle.rules.specs.Site.{Item, message, request}
+use Rattle.rules.proofs.Members.{members-zero}
 use Rattle.rules.proofs.Tests.{and-left, and-right, Same, same?}
 use Rattle.channel.specs.Words.{itemOf, messageWord, requestWord}
 use Rattle.channel.specs.Channels.{channelsAs, Whole, Clean, channelIndex, lenOf, row, wordsOn, itemsOn, isFree, pushed, firstOf, movedDown, popped, freeBelow, allFree, sentEach, requestedAll}
@@ -333,6 +334,10 @@ sent-whole : (ks : List ℕ) (l : Channels) (from word : ℕ) → Whole l → Wh
 sent-whole [] l from word w = w
 sent-whole (k ∷ ks) l from word w =
     sent-whole ks (pushed l (channelIndex from k) word) from word (push-whole l (channelIndex from k) word w)
+
+pub requested-nobody : (l : Channels) (from set : ℕ) → requestedAll l from nobody set ≡ l
+unfolding requestedAll
+requested-nobody l from set = rw (members-zero)
 
 pub requested-whole : (l : Channels) (from to set : ℕ) → Whole l → Whole (requestedAll l from to set)
 unfolding requestedAll

@@ -14,13 +14,13 @@ use Rattle.rules.specs.Zone.{hasCheckpoint, sentUnder, needed, through, gated}
 use Rattle.rules.specs.declared.Direction.{Direction}
 use Rattle.rules.specs.declared.Direction.the-variants.{In, Out}
 use Rattle.rules.specs.declared.Local.{Local}
-use Rattle.rules.proofs.Members.{members-zero}
 use Rattle.rules.proofs.Sums.{sum-at}
 use Rattle.rules.proofs.AskLaws.{AllYes, numbers, lacks, not-among, yes-both, all-yes, ask-yes, ask-refused, ask-behind, ask-cases, ask-both}
 use Rattle.channel.specs.Words.{itemOf, carsIn, setIn, messageWord}
-use Rattle.channel.specs.Channels.{channelsAs, isChannel, channelIndex, lenOf, pushed, popped, firstOf, highestFull, allFree, requestedAll}
+use Rattle.channel.specs.Channels.{channelsAs, isChannel, channelIndex, lenOf, pushed, popped, firstOf, allFree, requestedAll}
 use Rattle.channel.specs.declared.Channels.{Channels}
-use Rattle.channel.proofs.Search.{all-free-none, highest-nobody}
+use Rattle.channel.proofs.Search.{free-nobody}
+use Rattle.channel.proofs.View.{requested-nobody}
 use Rattle.local.specs.Requesting.{startedBy}
 use Rattle.local.specs.declared.Requesting.{Requesting}
 use Rattle.run.specs.Calls.{actor, isNamed, itemReceived, editionQuestions, ownGateQuestions, zoneAfter, channelsAfter, refused, granted, answer, firstReceived, recordOf}
@@ -97,7 +97,7 @@ module _ (terms : Terms) (records at : ℕ) (z : Local) (held : ℕ) (w : Weighe
       let q = w .sum in
       omega arith
 
--- The effect of a hand-over, of a receipt and of a start, question by question.
+-- The effect of a hand-over, question by question.
 module _ (terms : Terms) (from to cars : ℕ) (z : Local) (l : Channels) (started : Bool) (held : ℕ) where
   pub send-7 : (o : Effect) → o ≡ unchanged 7 z → z .stock < cars
       → record { effect = o; channels = l } ≡ ownEffect (Send from to cars) terms z l started held
@@ -116,22 +116,7 @@ module _ (terms : Terms) (from to cars : ℕ) (z : Local) (l : Channels) (starte
   unfolding ownEffect
   send-0 k word flag zone after e covers h f g p q = rw (q, p, g, f, e, le-leb _ _ covers, lt-ltb _ _ (subst (λ (n : ℕ). lenOf l n < 16) e h))
 
--- What the search for a full channel tells.
-module _ (l : Channels) (from to full : ℕ) (e : full ≡ highestFull l from to) where
-  pub some-full : full ≢ 0 → allFree l from to ≡ false
-  some-full h = sym (all-free-none l from to) ∙ ne-eqb _ _ (λ (q : highestFull l from to ≡ 0). h (e ∙ q))
-
-  pub none-full : full ≡ 0 → allFree l from to ≡ true
-  none-full h = sym (all-free-none l from to) ∙ eq-eqb _ _ (sym e ∙ h)
-
--- No request: no channel is asked, and none changes.
-none-asked : (l : Channels) (from to : ℕ) → to ≡ 0 → 0 ≡ highestFull l from to
-none-asked l from to h = rw (h, highest-nobody)
-
-none-requested : (l : Channels) (from to set : ℕ) → to ≡ 0 → l ≡ requestedAll l from to set
-unfolding requestedAll
-none-requested l from to set h = rw (h, members-zero)
-
+-- The effect of a receipt, by the channel's index k.
 module _ (terms : Terms) (from to : ℕ) (z : Local) (l : Channels) (started : Bool) (held : ℕ) (k : ℕ) (e : k ≡ channelIndex (index from) (index to)) where
   pub receive-9 : (o : Effect) → o ≡ unchanged 9 z → lenOf l k ≡ 0
       → record { effect = o; channels = l } ≡ ownEffect (Receive from to) terms z l started held
@@ -139,8 +124,7 @@ module _ (terms : Terms) (from to : ℕ) (z : Local) (l : Channels) (started : B
   receive-9 o g h = rw (g, eq-eqb _ _ (subst (λ (n : ℕ). lenOf l n ≡ 0) e h))
 
   -- The item that stands first makes `got` of the zone.
-  module _ (holds : lenOf l k ≢ 0) (got : Requesting) (takes : got ≡ itemReceived (terms .edition) (index from) (index to) (itemOf (firstOf l k)) z) (full : ℕ)
-      (search : full ≡ highestFull l (index to) (got .to)) where
+  module _ (holds : lenOf l k ≢ 0) (got : Requesting) (takes : got ≡ itemReceived (terms .edition) (index from) (index to) (itemOf (firstOf l k)) z) where
     targets-free : (b : Bool) → allFree l (index to) (got .to) ≡ b → allFree l (index to) (firstReceived terms (index from) (index to) z l .to) ≡ b
     targets-free b q =
         subst (λ (n : ℕ). allFree l (index to) (itemReceived (terms .edition) (index from) (index to) (itemOf (firstOf l n)) z .to) ≡ b) e
@@ -149,44 +133,44 @@ module _ (terms : Terms) (from to : ℕ) (z : Local) (l : Channels) (started : B
     here : lenOf l (channelIndex (index from) (index to)) ≢ 0
     here = subst (λ (n : ℕ). lenOf l n ≢ 0) e holds
 
-    pub receive-10 : (o : Effect) → o ≡ unchanged 10 z → full ≢ 0
+    pub receive-10 : (o : Effect) → o ≡ unchanged 10 z → allFree l (index to) (got .to) ≡ false
         → record { effect = o; channels = l } ≡ ownEffect (Receive from to) terms z l started held
     unfolding ownEffect
-    receive-10 o g h = rw (g, ne-eqb _ _ here, targets-free false (some-full l (index to) (got .to) full search h))
+    receive-10 o g h = rw (g, ne-eqb _ _ here, targets-free false h)
 
     -- Accepted: the item leaves its channel, and the requests join theirs.
-    pub receive-0 : (popping after : Channels) → full ≡ 0 → popping ≡ popped l k
+    pub receive-0 : (popping after : Channels) → allFree l (index to) (got .to) ≡ true → popping ≡ popped l k
         → after ≡ requestedAll popping (index to) (got .to) (got .carried)
         → record { effect = record { refusal = 0; zone = got .local }; channels = after } ≡ ownEffect (Receive from to) terms z l started held
     unfolding ownEffect
-    receive-0 popping after h p q = rw (q, p, takes, e, ne-eqb _ _ here, targets-free true (none-full l (index to) (got .to) full search h))
+    receive-0 popping after h p q = rw (q, p, takes, e, ne-eqb _ _ here, targets-free true h)
 
-  -- The same where no request is sent.
+  -- The same where no request is sent: no channel is asked, and none but the item's own changes.
   pub receive-quiet : lenOf l k ≢ 0 → (got : Requesting) → got ≡ itemReceived (terms .edition) (index from) (index to) (itemOf (firstOf l k)) z → got .to ≡ 0
       → (popping : Channels) → popping ≡ popped l k
       → record { effect = record { refusal = 0; zone = got .local }; channels = popping } ≡ ownEffect (Receive from to) terms z l started held
   receive-quiet holds got takes h popping p =
-      receive-0 holds got takes 0 (none-asked l (index to) (got .to) h) popping popping refl p (none-requested popping (index to) (got .to) (got .carried) h)
+      receive-0 holds got takes popping popping (rw (h) (free-nobody l (index to))) p (rw (h, requested-nobody) refl)
 
+-- The effect of a start.
 module _ (terms : Terms) (zone : ℕ) (z : Local) (l : Channels) (started : Bool) (held : ℕ) where
   pub start-11 : (o : Effect) → o ≡ unchanged 11 z → started ≡ true
       → record { effect = o; channels = l } ≡ ownEffect (Start zone) terms z l started held
   unfolding ownEffect
   start-11 o g h = rw (g, h)
 
-  module _ (first : started ≡ false) (got : Requesting) (starts : got ≡ startedBy (index zone) z) (full : ℕ)
-      (search : full ≡ highestFull l (index zone) (got .to)) where
-    pub start-10 : (o : Effect) → o ≡ unchanged 10 z → full ≢ 0 → record { effect = o; channels = l } ≡ ownEffect (Start zone) terms z l started held
+  module _ (first : started ≡ false) (got : Requesting) (starts : got ≡ startedBy (index zone) z) where
+    pub start-10 : (o : Effect) → o ≡ unchanged 10 z → allFree l (index zone) (got .to) ≡ false → record { effect = o; channels = l } ≡ ownEffect (Start zone) terms z l started held
     unfolding ownEffect
     start-10 o g h =
-        rw (g, first, subst (λ (g : Requesting). allFree l (index zone) (g .to) ≡ false) starts (some-full l (index zone) (got .to) full search h))
+        rw (g, first, subst (λ (g : Requesting). allFree l (index zone) (g .to) ≡ false) starts h)
 
     -- Accepted: the requests join their channels.
-    pub start-0 : (after : Channels) → full ≡ 0 → after ≡ requestedAll l (index zone) (got .to) (got .carried)
+    pub start-0 : (after : Channels) → allFree l (index zone) (got .to) ≡ true → after ≡ requestedAll l (index zone) (got .to) (got .carried)
         → record { effect = record { refusal = 0; zone = got .local }; channels = after } ≡ ownEffect (Start zone) terms z l started held
     unfolding ownEffect
     start-0 after h q =
-        rw (q, starts, first, subst (λ (g : Requesting). allFree l (index zone) (g .to) ≡ true) starts (none-full l (index zone) (got .to) full search h))
+        rw (q, starts, first, subst (λ (g : Requesting). allFree l (index zone) (g .to) ≡ true) starts h)
 
 -- Behind question 1, a gate call asks 15.
 pub gate-15 : (d : Direction) (zone cars : ℕ) (terms : Terms) (records : ℕ) (z : Local) (l : Channels) (started : Bool) (held : ℕ) (o : Effect)

@@ -6,6 +6,7 @@ use Prim.Native.Nat.{ℕ, _<_}
 use native.Mathlib.Omega.{arith}
 use Rattle.rules.proofs.Tests.{no, yes}
 use Rattle.channel.specs.Channels.{channelsAs, lenOf}
+use Rattle.channel.proofs.Search.{some-full, none-full}
 use Rattle.run.specs.Calls.{isPair}
 use Rattle.run.specs.declared.SiteCall.{SiteCall}
 use Rattle.run.specs.declared.SiteCall.the-variants.{Receive}
@@ -154,8 +155,8 @@ returns-5 c = λ started held.
     let t = taken (asking f) in
     let h = holding t in
     let p = indexed h in
-    receive-10 _ _ _ _ _ started held _ (p .channel-index .ensures .0) (h .if3 .left) _ (t .take .ensures) _ (f .highest-full .ensures _) _
-    (c .no-effect4 .ensures) (c .before .if5 .taken)
+    receive-10 _ _ _ _ _ started held _ (p .channel-index .ensures .0) (h .if3 .left) _ (t .take .ensures) _ (c .no-effect4 .ensures)
+    (some-full _ _ _ _ (f .highest-full .ensures _) (c .before .if5 .taken))
     ∙ behind (roomy p) .own _ started held
 
 pop-requires-2 : tie.Need-pop-requires-2
@@ -176,8 +177,8 @@ returns-6 c = λ started held.
     let t = taken (asking f) in
     let h = holding t in
     let p = indexed h in
-    receive-0 _ _ _ _ _ started held _ (p .channel-index .ensures .0) (h .if3 .left) _ (t .take .ensures) _ (f .highest-full .ensures _) _ _
-    (i .if5 .left) (o .pop2 .ensures .1) (d .request-all .ensures)
+    receive-0 _ _ _ _ _ started held _ (p .channel-index .ensures .0) (h .if3 .left) _ (t .take .ensures) _ _
+    (none-full _ _ _ _ (f .highest-full .ensures _) (i .if5 .left)) (o .pop2 .ensures .1) (d .request-all .ensures)
     ∙ behind (roomy p) .own _ started held
 
 pub receive-spec : {M : Type 1} → statement M

@@ -4,6 +4,7 @@ use mathlib.Core.Bool.{true}
 use Rattle.rules.specs.Questions.{isOn}
 use Rattle.rules.proofs.Tests.{no, yes}
 use Rattle.channel.specs.Channels.{channelsAs}
+use Rattle.channel.proofs.Search.{some-full, none-full}
 use Rattle.run.specs.declared.SiteCall.{SiteCall}
 use Rattle.run.specs.declared.SiteCall.the-variants.{Start}
 use Rattle.run.proofs.Outcome.{zone-sited}
@@ -86,7 +87,8 @@ returns-4 : tie.Need-returns-4
 returns-4 c = λ held.
     let f = c .before .before in
     let b = begun f in
-    start-10 _ _ _ _ _ held (first b .if3 .left) _ (b .start .ensures) _ (f .highest-full .ensures _) _ (c .no-effect4 .ensures) (c .before .if4 .taken)
+    start-10 _ _ _ _ _ held (first b .if3 .left) _ (b .start .ensures) _ (c .no-effect4 .ensures)
+    (some-full _ _ _ _ (f .highest-full .ensures _) (c .before .if4 .taken))
     ∙ behind (roomy (first b)) .own _ _ held
 
 cast-request-all : tie.Need-cast-request-all
@@ -101,7 +103,8 @@ returns-5 c = λ held.
     let i = free d in
     let f = i .before in
     let b = begun f in
-    start-0 _ _ _ _ _ held (first b .if3 .left) _ (b .start .ensures) _ (f .highest-full .ensures _) _ (i .if4 .left) (d .request-all .ensures)
+    start-0 _ _ _ _ _ held (first b .if3 .left) _ (b .start .ensures) _ (none-full _ _ _ _ (f .highest-full .ensures _) (i .if4 .left))
+    (d .request-all .ensures)
     ∙ behind (roomy (first b)) .own _ _ held
 
 pub start-spec : {M : Type 1} → statement M
