@@ -5,7 +5,8 @@ An edit is named there in full and in backquotes, `crate/label`, and stands in c
 - a named edit does not exist, or an edit of the tree is not named;
 - a cell under "Shut out" names an edit in any other way: without backquotes, or by its label alone;
 - a path of the form crates/... that the document names does not exist;
-- an edit has a line that rt passes over without a word: texts of two lines would be cut.
+- an edit has a line that rt passes over without a word, so that it would do less than it says: a second line of a text, or an old text that
+  no new one follows.
 
 What else is in backquotes, but for the first cell of a row, is a name: `name`, `crate::function`, `Type::method` or `Record.field`. It is
 an error if its crate does not declare it. The crate of a bare name is the one named last before it in its cell: by `crate::function`, or by
@@ -62,11 +63,16 @@ def unknown(text, names, types):
 
 
 def cut_edits():
-    """The edits with a line that is no comment, file, old or new text."""
+    """What rt would pass over in an edit: a line that is neither empty nor a comment, file, old or new text, and an old text that is not
+    followed at once by its new one."""
     for path in sorted(ROOT.glob("crates/*/must-fail/*.edit")):
-        for number, line in enumerate(path.read_text(encoding="utf-8").splitlines(), 1):
-            if line and not line.startswith(("#", "file: ", "old: ", "new:")):
+        old = False
+        for number, line in enumerate(path.read_text(encoding="utf-8").split("\n") + [""], 1):
+            if old and not line.startswith("new:"):
+                yield f"{path.relative_to(ROOT)}:{number}: an old text without its new one"
+            elif line and not line.startswith(("#", "file: ", "old: ", "new:")):
                 yield f"{path.relative_to(ROOT)}:{number}: rt passes over this line"
+            old = line.startswith("old: ")
 
 
 def main():

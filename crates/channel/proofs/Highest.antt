@@ -1,5 +1,5 @@
 -- The zones of a set, highest first: the index of the highest, by the zeros before it in a word of 32 bits, and the set without it. All is
--- computed, of each of the 256 sets.
+-- computed, of every set that is not empty.
 use mathlib.Core.Path.{_≡_, subst}
 use mathlib.Core.Bool.{Bool, true, _&&_, _||_, not, Bool·beq}
 use Prim.Native.Nat.{ℕ, _-_, _*_, _%_, _^_, _<_, _≤_}

@@ -77,7 +77,7 @@ push-full : (l : Channels) (k word : ℕ) → isFree l k ≡ false → pushed l 
 unfolding pushed
 push-full l k word f = rw (f)
 
--- What holds of a full channel's lists as they are, and of those with the word, holds in either case.
+-- What holds of the lists as they are and, where there is a place, of those with the word, holds after a push.
 push-cases : (P : Channels → Type 0) (l : Channels) (k word : ℕ) → P l
     → (isFree l k ≡ true → P (channelsAs (set (l .items) (k * 16 + lenOf l k) word) (set (l .lens) k (lenOf l k + 1)))) → P (pushed l k word)
 unfolding pushed
@@ -330,14 +330,14 @@ module _ (l : Channels) (a b : ℕ) (w : Whole l) (ha : a < 8) (hb : b < 8) wher
 
 -- A word on the channel to each zone of a set.
 
+pub requested-nobody : (l : Channels) (from set : ℕ) → requestedAll l from nobody set ≡ l
+unfolding requestedAll
+requested-nobody l from set = rw (members-zero)
+
 sent-whole : (ks : List ℕ) (l : Channels) (from word : ℕ) → Whole l → Whole (sentEach ks l from word)
 sent-whole [] l from word w = w
 sent-whole (k ∷ ks) l from word w =
     sent-whole ks (pushed l (channelIndex from k) word) from word (push-whole l (channelIndex from k) word w)
-
-pub requested-nobody : (l : Channels) (from set : ℕ) → requestedAll l from nobody set ≡ l
-unfolding requestedAll
-requested-nobody l from set = rw (members-zero)
 
 pub requested-whole : (l : Channels) (from to set : ℕ) → Whole l → Whole (requestedAll l from to set)
 unfolding requestedAll

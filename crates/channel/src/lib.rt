@@ -1,5 +1,5 @@
 // The channels ("lines") of a site: 64 of 16 places, each first in first out. Items are words; the places behind a channel's last item
-// hold 0, so that equal contents are equal values. Callers name a channel by its index, which they know to be below `CHANNELS`.
+// hold 0, so that equal contents are equal values (View: `same-contents`; push, pop and requests keep it so). Callers name a channel by its index, which they know to be below `CHANNELS`.
 ghost use mathlib.Core.Path.{_≡_};
 ghost use mathlib.Core.List.{List};
 ghost use Prim.Native.Nat.{ℕ, _<_, min};
@@ -120,7 +120,8 @@ pub fn pop(items: &mut [u16; WORDS], lens: &mut [u8; CHANNELS], k: usize) -> u16
 }
 
 // The number of the highest zone of a set whose channel is full; 0 where all have a free place. The next zone to be looked at is told by the
-// zeros before it, of 32 bits, since a byte would be widened at each turn. Steps calls it behind question 5, for a zone of a site.
+// zeros before it in a word of 32 bits, since a byte would be widened at each turn. Steps calls it behind question 5, for a zone of a site;
+// searches behind a test of its own.
 pub fn highest_full(lens: &[u8; CHANNELS], from: usize, to: u8) -> u8
     requires { ⌜ from < mostZones ⌝ }
     ensures { λ r. ⌜

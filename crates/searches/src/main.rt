@@ -5,7 +5,8 @@ use libc::STDIN_FILENO;
 use libc::STDOUT_FILENO;
 use rules::ZONES;
 
-// The zone that is named, as a digit on a line. A sender that no site has, or an answer of two digits, would print nothing, and be missed.
+// The zone that is named, as a digit on a line. For a sender that no site has, or an answer of two digits, the line would be missing, and the
+// gate's comparison fail.
 fn print(lens: &[u8; CHANNELS], from: u8, to: u8) {
     let at = from as usize;
     if ZONES <= at {

@@ -208,7 +208,7 @@ module _ (c : SiteCall) (terms : Terms) (records : ℕ) (z : Local) (l : Channel
         roomy : ownEffect c terms z l started held ≡ outcomeOf (furtherQuestions c terms records z l started held) c terms z l
         roomy = rw (named, lt-ltb _ _ h)
 
--- What 5 and 6 leave of a call: what it takes fits, and its own questions decide, whatever the channels are.
+-- What 15, which gates alone ask, 5 and 6 leave of a call: what it takes fits, and its own questions decide, whatever the channels are.
 pub record Behind (c : SiteCall) (terms : Terms) (records : ℕ) (z : Local) (l : Channels) : Type 0 where
   pub fits : Fits c z l
   pub own : (m : Channels) (started : Bool) (held : ℕ) → ownEffect c terms z m started held ≡ effect c terms records z m started held

@@ -1,4 +1,5 @@
--- `highest_full` meets its contract. The loop's invariant: the highest full one of the zones not yet looked at is that of all.
+-- `highest_full` meets its contract. The loop's invariant: the zones not yet looked at are a set of zones, and their highest full one is that
+-- of all.
 use borrow.Author.Needs.{needs}
 use mathlib.Core.List.{List}
 use mathlib.Core.Path.{_≡_, refl, sym, _∙_}

@@ -67,8 +67,8 @@ fn search(run: &Run) -> Search {
 }
 
 /// Zone 1 of three has heard both others, and its lines to them are full: as they are, after a
-/// receipt on one, on the other, on both. Then all lines full, with each set of one zone, with all
-/// and with none.
+/// receipt on one, on the other, on both. Then zone 8 with all lines full, with each set of one
+/// zone, with all and with none.
 fn stored() -> Vec<Search> {
     let (_, mut full) = Run::open(1, 3, &[10, 20, 30]);
     for other in [2, 3] {
