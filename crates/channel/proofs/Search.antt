@@ -39,33 +39,33 @@ module _ (l : Channels) (from to : ℕ) where
           let n = names d in
           absurd (true≢false (sym (each (index found) (omega (arith, n .0)) (n .1)) ∙ n .2))
 
-  -- Is nothing in the way at index n: the zone is not of the set, or its channel has a place?
-  abbrev passes : ℕ → Bool
-  passes n = not (has to n) || isFree l (channelIndex from n)
+  -- What question 10 asks at index n: the zone is not of the set, or its channel has a free place.
+  abbrev freeAt : ℕ → Bool
+  freeAt n = not (has to n) || isFree l (channelIndex from n)
 
-  -- What is found stands in the way, and nothing above it does.
-  found-stands : (n : ℕ) → fullBelow n l from to ≢ 0 → (fullBelow n l from to ≤ n) × (passes (index (fullBelow n l from to)) ≡ false)
-  found-stands zero d = absurd (d refl)
-  found-stands (suc n) d = go (found-stands n) (passes n) refl d
+  -- It is answered no at the zone that is found, and yes at those above.
+  found-full : (n : ℕ) → fullBelow n l from to ≢ 0 → (fullBelow n l from to ≤ n) × (freeAt (index (fullBelow n l from to)) ≡ false)
+  found-full zero d = absurd (d refl)
+  found-full (suc n) d = go (found-full n) (freeAt n) refl d
     where
-      go : (fullBelow n l from to ≢ 0 → (fullBelow n l from to ≤ n) × (passes (index (fullBelow n l from to)) ≡ false))
-          → (t : Bool) → passes n ≡ t → cond t (fullBelow n l from to) (n + 1) ≢ 0
-          → (cond t (fullBelow n l from to) (n + 1) ≤ suc n) × (passes (index (cond t (fullBelow n l from to) (n + 1))) ≡ false)
+      go : (fullBelow n l from to ≢ 0 → (fullBelow n l from to ≤ n) × (freeAt (index (fullBelow n l from to)) ≡ false))
+          → (t : Bool) → freeAt n ≡ t → cond t (fullBelow n l from to) (n + 1) ≢ 0
+          → (cond t (fullBelow n l from to) (n + 1) ≤ suc n) × (freeAt (index (cond t (fullBelow n l from to) (n + 1))) ≡ false)
       go more true e d = let m = more d in (omega (arith, m .0), m .1)
-      go more false e d = let k : n + 1 - 1 ≡ n = omega arith in (omega arith, ap passes k ∙ e)
+      go more false e d = let k : n + 1 - 1 ≡ n = omega arith in (omega arith, ap freeAt k ∙ e)
 
-  above-passes : (n i : ℕ) → i < n → fullBelow n l from to < i + 1 → passes i ≡ true
-  above-passes zero i h g = absurd (omega arith)
-  above-passes (suc n) i h g = go (above-passes n i) (passes n) refl g (below? i n)
+  above-free : (n i : ℕ) → i < n → fullBelow n l from to < i + 1 → freeAt i ≡ true
+  above-free zero i h g = absurd (omega arith)
+  above-free (suc n) i h g = go (above-free n i) (freeAt n) refl g (below? i n)
     where
-      go : (i < n → fullBelow n l from to < i + 1 → passes i ≡ true) → (t : Bool) → passes n ≡ t
-          → cond t (fullBelow n l from to) (n + 1) < i + 1 → (i < n) ⊎ (n ≤ i) → passes i ≡ true
+      go : (i < n → fullBelow n l from to < i + 1 → freeAt i ≡ true) → (t : Bool) → freeAt n ≡ t
+          → cond t (fullBelow n l from to) (n + 1) < i + 1 → (i < n) ⊎ (n ≤ i) → freeAt i ≡ true
       go more true e g (inl k) = more k g
-      go more true e g (inr k) = let q : i ≡ n = omega arith in ap passes q ∙ e
+      go more true e g (inr k) = let q : i ≡ n = omega arith in ap freeAt q ∙ e
       go more false e g k = absurd (omega arith)
 
-  standing : (i : ℕ) → passes i ≡ false → (has to i ≡ true) × (isFree l (channelIndex from i) ≡ false)
-  standing i e =
+  not-free : (i : ℕ) → freeAt i ≡ false → (has to i ≡ true) × (isFree l (channelIndex from i) ≡ false)
+  not-free i e =
       let out = not (has to i) in
       let free = isFree l (channelIndex from i) in
       (not-false (has to i) (or-off-left out free e), or-off-right out free e)
@@ -74,10 +74,10 @@ module _ (l : Channels) (from to : ℕ) where
   unfolding highestFull
   highest-is =
       is-highest (fullBelow 8 l from to) (λ d.
-      let s = found-stands 8 d in
-      let t = standing _ (s .1) in
+      let s = found-full 8 d in
+      let t = not-free _ (s .1) in
       (s .0, t .0, t .1))
-      (λ i h g m. rw (m) at (above-passes 8 i h g))
+      (λ i h g m. rw (m) at (above-free 8 i h g))
 
   -- No other number is: of two, the channel of the higher one would be full and have a place.
   not-below : (m n : ℕ) → IsHighestFull l from to m → IsHighestFull l from to n → n ≤ m
@@ -99,7 +99,7 @@ module _ (l : Channels) (from to : ℕ) where
   -- It answers none exactly when question 10 is answered yes.
   none-below : (n : ℕ) → eqb (fullBelow n l from to) 0 ≡ freeBelow n l from to
   none-below zero = refl
-  none-below (suc n) = go (none-below n) (passes n)
+  none-below (suc n) = go (none-below n) (freeAt n)
     where
       go : eqb (fullBelow n l from to) 0 ≡ freeBelow n l from to
           → (t : Bool) → eqb (cond t (fullBelow n l from to) (n + 1)) 0 ≡ freeBelow n l from to && t

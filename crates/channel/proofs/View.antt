@@ -397,10 +397,10 @@ module _ (l : Channels) (from to word : ℕ) (w : Whole l) where
     after-view (suc n) h f i j hj = go (after-view n (omega arith) below i j hj) (has to n) refl (eqb j n) refl
       where
         below : freeBelow n l from to ≡ true
-        below = and-left (freeBelow n l from to) (not (has to n) || isFree l (channelIndex from n)) f
+        below = and-left (freeBelow n l from to) _ f
 
         free : has to n ≡ true → isFree (after n) (channelIndex from n) ≡ true
-        free e = ap (λ (m : ℕ). ltb m 16) (after-above n n (omega arith)) ∙ (rw (e) at (and-right (freeBelow n l from to) (not (has to n) || isFree l (channelIndex from n)) f))
+        free e = ap (λ (m : ℕ). ltb m 16) (after-above n n (omega arith)) ∙ (rw (e) at (and-right (freeBelow n l from to) _ f))
 
         go : view (after n) (channelIndex i j) ≡ on (eqb i from && (ltb j n && has to j)) change (view l (channelIndex i j))
             → (t : Bool) → has to n ≡ t → (s : Bool) → eqb j n ≡ s

@@ -22,11 +22,11 @@ abbrev μ-loop : tie.MeasureT-loop
 abbrev looped : tie.After-if12 Inv-loop μ-loop → tie.At-loop Inv-loop μ-loop
 looped c = c .before .before .before
 
-some-left : (c : tie.After-if12 Inv-loop μ-loop) → 0 < looped c .loop .unseen
-some-left c = omega arith
+zone-left : (c : tie.After-if12 Inv-loop μ-loop) → 0 < looped c .loop .unseen
+zone-left c = omega arith
 
 site-zone : (c : tie.After-if12 Inv-loop μ-loop) → highest (looped c .loop .unseen) < 8
-site-zone c = highest-lt _ (looped c .loop .inv .0) (some-left c)
+site-zone c = highest-lt _ (looped c .loop .inv .0) (zone-left c)
 
 loop-holds : tie.Need-loop-holds Inv-loop μ-loop
 loop-holds c = (omega (arith, c .fits .to .fits), λ items. refl)
@@ -55,7 +55,7 @@ add-result c = let h = site-zone (c .before) in omega arith
 returns : tie.Need-returns Inv-loop μ-loop
 returns c = λ items.
     let l = looped (c .before) .loop in
-    step-full _ _ (l .unseen) _ (l .inv .0) (some-left (c .before)) (c .before .before .channel-index .ensures .0) (c .if1 .taken) ∙ l .inv .1 items
+    step-full _ _ (l .unseen) _ (l .inv .0) (zone-left (c .before)) (c .before .before .channel-index .ensures .0) (c .if1 .taken) ∙ l .inv .1 items
 
 shl-unseen : tie.Need-shl-unseen Inv-loop μ-loop
 shl-unseen c = let h = site-zone (c .before) in omega arith
@@ -63,14 +63,14 @@ shl-unseen c = let h = site-zone (c .before) in omega arith
 loop-less : tie.Need-loop-less Inv-loop μ-loop
 loop-less c =
     let l = looped (c .before) .loop in
-    lower-lt (l .unseen) (l .inv .0) (some-left (c .before))
+    lower-lt (l .unseen) (l .inv .0) (zone-left (c .before))
 
 loop-again : tie.Need-loop-again Inv-loop μ-loop
 loop-again c =
     let l = looped (c .before) .loop in
-    let less = lower-lt (l .unseen) (l .inv .0) (some-left (c .before)) in (
+    let less = lower-lt (l .unseen) (l .inv .0) (zone-left (c .before)) in (
       omega (arith, less, l .inv .0),
-      λ items. step-free _ _ (l .unseen) _ (l .inv .0) (some-left (c .before)) (c .before .before .channel-index .ensures .0) (c .if1 .left) ∙ l .inv .1 items,
+      λ items. step-free _ _ (l .unseen) _ (l .inv .0) (zone-left (c .before)) (c .before .before .channel-index .ensures .0) (c .if1 .left) ∙ l .inv .1 items,
     )
 
 returns-2 : tie.Need-returns-2 Inv-loop μ-loop
