@@ -1,5 +1,6 @@
 /* A control room's desk: a whole run of three zones with 10, 20 and 30 cars, from the opening to the recording's bytes, then the same from
- * the journal alone, line checks and street entrances. Prints the recording and its total; exits 1 if a value is not as it must be. */
+ * the journal alone, line checks, street entrances and a sign controller. Prints the recording and its total; exits 1 if a value is not
+ * as it must be. */
 #include <inttypes.h>
 #include <stdio.h>
 #include <stdlib.h>
@@ -33,14 +34,14 @@ static void accepted(uint8_t refusal, const char *what)
 static void traffic(void)
 {
     accepted(cut_send(&run, 1, 2, 4), "1 hands 4 cars to 2");
-    accepted(cut_receive(&run, 1, 2), "2 takes them");
+    accepted(cut_receive(&run, 1, 2).refusal, "2 takes them");
     accepted(cut_send(&run, 3, 2, 5), "3 hands 5 cars to 2");
     accepted(cut_send(&run, 1, 3, 2), "1 hands 2 cars to 3");
     accepted(cut_start(&run, 2), "2 starts");
     must(cut_start(&run, 1) == CUT_REFUSED_STARTED, "a second start is refused");
     accepted(cut_send(&run, 2, 3, 7), "2 hands 7 cars to 3");
-    accepted(cut_receive(&run, 2, 3), "3 takes them");
-    accepted(cut_receive(&run, 1, 3), "3 takes the 2 cars");
+    accepted(cut_receive(&run, 2, 3).refusal, "3 takes them");
+    accepted(cut_receive(&run, 1, 3).refusal, "3 takes the 2 cars");
 }
 
 /* The journal read back, and one whose fourth record (at position 3) hands over more cars than zone 1 has. */
@@ -88,7 +89,7 @@ static void checked(void)
     for (uint8_t edition = CUT_EDITION_FIRST; edition <= CUT_EDITION_LAST; edition++) {
         accepted(cut_open(&other, edition, 2, stocks, 2), "a site opens");
         accepted(cut_send(&other, 1, 2, 0), "1 hands 0 cars to 2");
-        accepted(cut_receive(&other, 1, 2), "2 takes them");
+        accepted(cut_receive(&other, 1, 2).refusal, "2 takes them");
         accepted(cut_start(&other, 2), "2 starts");
         cut_written w = cut_record(&other, bytes, sizeof bytes);
         shown[0] = (uint8_t)(32 * edition + 4);
@@ -111,13 +112,13 @@ static void counted(void)
     accepted(cut_open(&other, 3, 3, stocks, 3), "a site with gates opens");
     accepted(cut_enter(&other, 1, 3), "3 cars drive in at 1");
     accepted(cut_send(&other, 1, 2, 4), "1 hands 4 cars to 2");
-    accepted(cut_receive(&other, 1, 2), "2 takes them");
+    accepted(cut_receive(&other, 1, 2).refusal, "2 takes them");
     accepted(cut_leave(&other, 2, 9), "9 cars drive out at 2");
     must(cut_leave(&other, 2, 16) == CUT_REFUSED_STOCK_TOO_LOW, "16 of 15 cars do not drive out");
     accepted(cut_start(&other, 2), "2 starts");
     accepted(cut_enter(&other, 2, 50), "50 cars drive in at 2, after its mark");
     accepted(cut_leave(&other, 1, 1), "1 car drives out at 1");
-    accepted(cut_receive(&other, 2, 1), "1 takes the request");
+    accepted(cut_receive(&other, 2, 1).refusal, "1 takes the request");
     accepted(cut_enter(&other, 1, 7), "7 cars drive in at 1, after its mark");
     cut_written w = cut_record(&other, bytes, sizeof bytes);
     must(w.written == sizeof shown && memcmp(bytes, shown, sizeof shown) == 0, "the recording is as worked out by hand");
@@ -139,6 +140,27 @@ static void full(void)
     must(cut_record(&other, bytes, sizeof bytes).total == CUT_CARS_MAX + 255, "the entry is recorded, the exit is not");
 }
 
+/* Zone 1 hands cars to zone 2 three times. The sign controller of zone 2 comes back soon as long as something remains on the channel
+ * ("line"); the journal tells what remained at the last receipt. */
+static void awaited(void)
+{
+    const uint16_t stocks[] = {9, 9};
+    uint8_t bytes[CUT_JOURNAL_BYTES];
+    cut_run other;
+    accepted(cut_open(&other, 3, 2, stocks, 2), "a site opens");
+    for (uint8_t cars = 1; cars <= 3; cars++)
+        accepted(cut_send(&other, 1, 2, cars), "1 hands cars to 2");
+    cut_received got = cut_receive(&other, 1, 2);
+    must(got.refusal == CUT_ACCEPTED && got.remaining == 2, "2 takes the first, and two remain");
+    cut_written w = cut_write(&other, bytes, sizeof bytes);
+    must(cut_journal_read(bytes, w.written).remaining == 2, "the journal tells the same");
+    while (got.remaining > 0)
+        got = cut_receive(&other, 1, 2);
+    must(got.refusal == CUT_ACCEPTED && other.head.zones[1].stock == 15, "2 takes the others, and nothing remains");
+    got = cut_receive(&other, 1, 2);
+    must(got.refusal == CUT_REFUSED_CHANNEL_EMPTY && got.remaining == 0, "so it need not have come back");
+}
+
 int main(void)
 {
     const uint16_t stocks[] = {10, 20, 30};
@@ -148,7 +170,7 @@ int main(void)
     must(cut_record(&run, bytes, sizeof bytes).refusal == CUT_REFUSED_NOT_STARTED, "nothing was started");
     traffic();
     must(cut_record(&run, bytes, sizeof bytes).refusal == CUT_REFUSED_REQUEST_UNDER_WAY, "a request is under way");
-    accepted(cut_receive(&run, 2, 1), "1 takes the request");
+    accepted(cut_receive(&run, 2, 1).refusal, "1 takes the request");
 
     cut_written w = cut_write(&run, bytes, sizeof bytes);
     must(w.refusal == CUT_ACCEPTED && w.written == sizeof journal && w.total == 0, "the journal is written");
@@ -167,6 +189,7 @@ int main(void)
     checked();
     counted();
     full();
+    awaited();
 
     for (size_t i = 0; i < w.written; i++)
         printf(i == 0 ? "%02X" : " %02X", bytes[i]);

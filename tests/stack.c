@@ -103,7 +103,7 @@ static OWN void call_send(void)
 
 static OWN void call_receive(void)
 {
-    told(cut_receive(&run, 1, 2));
+    told(cut_receive(&run, 1, 2).refusal);
 }
 
 static OWN void call_start(void)
@@ -210,7 +210,7 @@ static void prepare(void)
     told(cut_open(&first, 3, 3, stocks, 3));
     for (int k = 0; k < 490; k++) {
         told(cut_send(&first, (uint8_t)(k % 3 + 1), (uint8_t)((k + 1) % 3 + 1), 1));
-        told(cut_receive(&first, (uint8_t)(k % 3 + 1), (uint8_t)((k + 1) % 3 + 1)));
+        told(cut_receive(&first, (uint8_t)(k % 3 + 1), (uint8_t)((k + 1) % 3 + 1)).refusal);
     }
     told(cut_enter(&first, 2, 1));
     told(cut_leave(&first, 3, 1));
@@ -226,8 +226,8 @@ int main(void)
     for (size_t k = 0; k < sizeof calls / sizeof calls[0]; k++) {
         if (calls[k].call == call_record) {
             told(cut_start(&first, 1));
-            told(cut_receive(&first, 1, 3));
-            told(cut_receive(&first, 3, 2));
+            told(cut_receive(&first, 1, 3).refusal);
+            told(cut_receive(&first, 3, 2).refusal);
             cut_written w = cut_write(&first, bytes, sizeof bytes);
             told(w.refusal);
             size = w.written;

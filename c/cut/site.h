@@ -8,9 +8,9 @@
  *     uint8_t refusal = cut_send(&run, from, to, cars);
  *
  * A call answers CUT_ACCEPTED, or the first refusal of its list, from left to right, that holds (cut_refusal_words gives its words); then the
- * run and every lent byte are as they were, and `written` and `total` are 0. Every value of every field and argument may be passed. Pointers
- * must not be null, also where a length is 0, must name as many values as the length or the array's type says, and what is written through
- * one must not overlap what another names.
+ * run and every lent byte are as they were, and `remaining`, `written` and `total` are 0. Every value of every field and argument may be
+ * passed. Pointers must not be null, also where a length is 0, must name as many values as the length or the array's type says, and what is
+ * written through one must not overlap what another names.
  *
  * A run is sound where edition is 1 to 3, count is 2 to 8, records is at most 1,000, no zone of the site has more own events than there are
  * records, every set of its zones and requests names only zones of the site, no channel ("line") has more than 16 items, stocks and cars on
@@ -106,23 +106,32 @@ typedef struct cut_run {
     uint16_t journal[CUT_RECORDS_MAX];         /* the "journal": head.records record words, as above */
 } cut_run;
 
-/* What opening answers. 4,214 bytes, alignment 2. */
+/* What opening answers. 4,214 bytes, alignment 2, without padding. */
 typedef struct cut_answer {
-    cut_run run;     /* the first run; refused, one of 2 zones with stock 0, edition 1 */
-    uint8_t refusal; /* the "refusal", an enum cut_refusal */
+    cut_run run;       /* the first run; refused, one of 2 zones with stock 0, edition 1 */
+    uint8_t refusal;   /* the "refusal", an enum cut_refusal */
+    uint8_t remaining; /* 0: opening is no receipt */
 } cut_answer;
 
-/* What a call on a run answers beside the arrays that it was lent. 102 bytes, alignment 2. */
+/* What a call on a run answers beside the arrays that it was lent. 102 bytes, alignment 2, without padding. */
 typedef struct cut_head_answer {
-    cut_head head;   /* the next head; refused, the one that was passed */
-    uint8_t refusal; /* the "refusal", an enum cut_refusal */
+    cut_head head;     /* the next head; refused, the one that was passed */
+    uint8_t refusal;   /* the "refusal", an enum cut_refusal */
+    uint8_t remaining; /* of a receipt that is accepted, as in a cut_received; else 0 */
 } cut_head_answer;
+
+/* What cut_receive answers. 2 bytes. */
+typedef struct cut_received {
+    uint8_t refusal;   /* the "refusal", an enum cut_refusal */
+    uint8_t remaining; /* "how many remain" on the channel ("line") after the receipt: its items, requests too, at most 15; refused, 0 */
+} cut_received;
 
 /* What reading answers. 4,232 bytes, alignment 8. */
 typedef struct cut_reading {
-    cut_run run;     /* the run that the journal replays to; refused, one of 2 zones with stock 0, edition 1 */
-    size_t position; /* the "position" of the record that is refused with 18 or 19, counted from 0; else 0 */
-    uint8_t refusal; /* the "refusal", an enum cut_refusal */
+    cut_run run;       /* the run that the journal replays to; refused, one of 2 zones with stock 0, edition 1 */
+    size_t position;   /* the "position" of the record that is refused with 18 or 19, counted from 0; else 0 */
+    uint8_t refusal;   /* the "refusal", an enum cut_refusal */
+    uint8_t remaining; /* what the journal's last receipt answered, as in a cut_received; 0 where it has none, and refused */
 } cut_reading;
 
 /* What writing answers. 24 bytes, alignment 8. */
@@ -143,6 +152,9 @@ CUT_STATIC_ASSERT(offsetof(cut_head, edition) == 1 && offsetof(cut_head, records
 CUT_STATIC_ASSERT(offsetof(cut_head, zones) == 4 && offsetof(cut_head, opening) == 84, "the layout that the library has");
 CUT_STATIC_ASSERT(offsetof(cut_run, items) == 100 && offsetof(cut_run, lens) == 2148, "the layout that the library has");
 CUT_STATIC_ASSERT(offsetof(cut_run, journal) == 2212 && offsetof(cut_reading, position) == 4216, "the layout that the library has");
+CUT_STATIC_ASSERT(offsetof(cut_answer, refusal) == 4212 && offsetof(cut_answer, remaining) == 4213, "the layout that the library has");
+CUT_STATIC_ASSERT(offsetof(cut_head_answer, refusal) == 100 && offsetof(cut_head_answer, remaining) == 101, "the layout that the library has");
+CUT_STATIC_ASSERT(offsetof(cut_reading, refusal) == 4224 && offsetof(cut_reading, remaining) == 4225, "the layout that the library has");
 CUT_STATIC_ASSERT(offsetof(cut_written, total) == 4 && offsetof(cut_written, position) == 8, "the layout that the library has");
 CUT_STATIC_ASSERT(offsetof(cut_written, written) == 16, "the layout that the library has");
 CUT_STATIC_ASSERT(CUT_JOURNAL_BYTES == 2 + 2 * CUT_ZONES_MAX + 2 * CUT_RECORDS_MAX, "a word a zone and a word a record");
@@ -175,10 +187,10 @@ cut_written cut_site_record(cut_head head, const uint16_t *items, const uint8_t 
 /* cut_write ("journal writing"). Stack: CUT_WRITE_STACK. */
 cut_written cut_journal_write(cut_head head, const uint16_t *items, const uint8_t *lens, const uint16_t *journal, uint8_t *out, size_t size);
 
-/* Reads a journal of `size` bytes ("reading"); it is replayed under its own edition. Refused with: 15 it has no header, of two bytes, or its
- * edition is not 1 to 3; 16 the header's zones or records are out of range; 17 its length does not fit the header; 4 the stocks sum to more
- * than 65,535; then for each record in turn 18 it is not well formed, 19 its call is not accepted. Stack: CUT_JOURNAL_READ_STACK, of which
- * the answer takes 4,232 bytes. */
+/* Reads a journal of `size` bytes ("reading"); it is replayed under its own edition. It also answers how many items remained at the journal's
+ * last receipt. Refused with: 15 it has no header, of two bytes, or its edition is not 1 to 3; 16 the header's zones or records are out of
+ * range; 17 its length does not fit the header; 4 the stocks sum to more than 65,535; then for each record in turn 18 it is not well formed,
+ * 19 its call is not accepted. Stack: CUT_JOURNAL_READ_STACK, of which the answer takes 4,232 bytes. */
 cut_reading cut_journal_read(const uint8_t *bytes, size_t size);
 
 /* Reads a journal of `size` bytes and writes its snapshot ("recording") to `room` bytes; CUT_RECORDING_BYTES are enough. It answers the
@@ -209,13 +221,15 @@ static inline uint8_t cut_send(cut_run *run, uint8_t from, uint8_t to, uint8_t c
 }
 
 /* Receives the first item on the channel from one zone to another ("receipt"); a line check leaves its place, takes a record and changes no
- * zone. Refused with: 1; 5; 6; 9 the channel ("line") is empty; 10 a channel that must take a request is full. Stack: CUT_CALL_STACK. */
-static inline uint8_t cut_receive(cut_run *run, uint8_t from, uint8_t to)
+ * zone. It also answers how many items remain on the channel. Refused with: 1; 5; 6; 9 the channel ("line") is empty; 10 a channel that must
+ * take a request is full. Stack: CUT_CALL_STACK. */
+static inline cut_received cut_receive(cut_run *run, uint8_t from, uint8_t to)
 {
     cut_head_answer t = cut_site_receive(run->head, run->items, run->lens, run->journal, from, to);
+    cut_received got = {t.refusal, t.remaining};
     if (t.refusal == CUT_ACCEPTED)
         run->head = t.head;
-    return t.refusal;
+    return got;
 }
 
 /* Starts the recording ("start") with a zone as its initiator ("starter"). Refused with: 1; 5; 6; 11 a recording has been started; 10. Stack:

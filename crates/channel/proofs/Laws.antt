@@ -1,9 +1,12 @@
 -- What the loops of this crate need: places moved down one after another, and the members of a set taken one after another.
 use mathlib.Core.Path.{_≡_, refl, ap, _∙_}
+use mathlib.Core.Bool.{Bool, true, false}
 use mathlib.Core.List.{List, [], _∷_}
 use Prim.Native.Nat.{ℕ, zero, suc, _+_, _-_, _<_}
 use native.Mathlib.Omega.{arith}
-use lib.ListN.{length, set, getD}
+use lib.Dec.{ltb}
+use lib.ListN.{length, set, getD, List·getD-eq-default}
+use borrow.Author.Tests.{ltb-true, ltb-false}
 use Rattle.rules.specs.Sets.{members}
 use Rattle.rules.proofs.Members.{members-zero}
 use Rattle.channel.specs.Channels.{movedDown}
@@ -20,6 +23,14 @@ down-more xs j i n h =
 pub down-none : (xs : List ℕ) (j : ℕ) → movedDown xs j 0 ≡ xs
 unfolding movedDown
 down-none xs j = refl
+
+-- Where a list holds something other than 0, it has a place.
+pub has-place : (xs : List ℕ) (k : ℕ) → 0 < getD xs k 0 → k < length xs
+has-place xs k h = go (ltb k (length xs)) refl
+  where
+    go : (t : Bool) → ltb k (length xs) ≡ t → k < length xs
+    go true e = ltb-true k (length xs) e
+    go false e = absurd (omega (arith, List·getD-eq-default xs 0 {n = k} (ltb-false k (length xs) e)))
 
 -- A set of which zones are left is not empty.
 pub some-left : (rest left : ℕ) → left ≡ length (members rest) → 0 < left → 0 < rest

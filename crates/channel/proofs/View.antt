@@ -365,7 +365,7 @@ next j n d = go (ltb j n) refl
     go true e = let h = ltb-true j n e in lt-ltb j (suc n) (omega arith)
     go false e = let h = ltb-false j n e in le-ltb j (suc n) (omega arith)
 
-module _ (l : Channels) (from to word : ℕ) (w : Whole l) where
+module _ (l : Channels) (from to word : ℕ) where
   -- The channels when the zones below n have got theirs.
   abbrev after : ℕ → Channels
   after n = sentEach (membersBelow n to) l from word
@@ -376,19 +376,20 @@ module _ (l : Channels) (from to word : ℕ) (w : Whole l) where
   after-out : (n : ℕ) → has to n ≡ false → after (suc n) ≡ after n
   after-out n e = rw (e) (sent-append (membersBelow n to) [] l from word)
 
-  -- The channels to the zones from n on are as they were.
-  after-above : (n m : ℕ) → n ≤ m → lenOf (after n) (channelIndex from m) ≡ lenOf l (channelIndex from m)
-  after-above zero m h = refl
-  after-above (suc n) m h = go (after-above n m (omega arith)) (has to n) refl
+  -- Every channel but those to the zones below n is as long as it was.
+  after-other : (n k : ℕ) → ((m : ℕ) → m < n → k ≢ channelIndex from m) → lenOf (after n) k ≡ lenOf l k
+  after-other zero k d = refl
+  after-other (suc n) k d = go (after-other n k (λ m h. d m (omega arith))) (has to n) refl
     where
-      go : lenOf (after n) (channelIndex from m) ≡ lenOf l (channelIndex from m) → (t : Bool) → has to n ≡ t → lenOf (after (suc n)) (channelIndex from m) ≡ lenOf l (channelIndex from m)
+      go : lenOf (after n) k ≡ lenOf l k → (t : Bool) → has to n ≡ t → lenOf (after (suc n)) k ≡ lenOf l k
       go more true e =
-          ap (λ (c : Channels). lenOf c (channelIndex from m)) (after-in n e)
-          ∙ len-push-other (after n) (channelIndex from n) (channelIndex from m) word (λ (f : from * 8 + m ≡ from * 8 + n). omega arith)
-          ∙ more
-      go more false e = ap (λ (c : Channels). lenOf c (channelIndex from m)) (after-out n e) ∙ more
+          ap (λ (c : Channels). lenOf c k) (after-in n e) ∙ len-push-other (after n) (channelIndex from n) k word (d n (omega arith)) ∙ more
+      go more false e = ap (λ (c : Channels). lenOf c k) (after-out n e) ∙ more
 
-  module _ {A : Type 0} (view : Channels → ℕ → A) (change : A → A)
+  after-above : (n m : ℕ) → n ≤ m → lenOf (after n) (channelIndex from m) ≡ lenOf l (channelIndex from m)
+  after-above n m h = after-other n (channelIndex from m) (λ j b (f : from * 8 + m ≡ from * 8 + j). omega arith)
+
+  module _ (w : Whole l) {A : Type 0} (view : Channels → ℕ → A) (change : A → A)
       (law : (c : Channels) (b : ℕ) → Whole c → b < 8 → isFree c (channelIndex from b) ≡ true → (i j : ℕ) → j < 8
       → view (pushed c (channelIndex from b) word) (channelIndex i j) ≡ on (eqb i from && eqb j b) change (view c (channelIndex i j))) where
     after-view : (n : ℕ) → n ≤ 8 → freeBelow n l from to ≡ true → (i j : ℕ) → j < 8
@@ -421,6 +422,13 @@ module _ (l : Channels) (from to word : ℕ) (w : Whole l) where
             ∙ rw (d, and-false (ltb j n), and-false (ltb j (suc n)))
         go more false e false g =
             ap (λ (c : Channels). view c (channelIndex i j)) (after-out n e) ∙ rw (next j n (eqb-false j n g)) more
+
+-- The channels of every other sender are as long as they were, whatever state they are in.
+pub requested-other : (l : Channels) (from to set i j : ℕ) → i ≢ from → j < 8
+    → lenOf (requestedAll l from to set) (channelIndex i j) ≡ lenOf l (channelIndex i j)
+unfolding requestedAll members
+requested-other l from to set i j d h =
+    after-other l from to (requestWord set) 8 (channelIndex i j) (λ m b (f : i * 8 + j ≡ from * 8 + m). d (omega arith))
 
 module _ (l : Channels) (from to set : ℕ) (w : Whole l) (h : from < 8) (f : allFree l from to ≡ true) where
   pub requested-items : (i j : ℕ) → j < 8

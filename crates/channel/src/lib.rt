@@ -8,6 +8,7 @@ ghost use Rattle.rules.specs.Limits.{mostZones, places};
 ghost use Rattle.channel.specs.Channels.{
   mostChannels,
   channelsAs,
+  lenOf,
   isChannel,
   allEmpty,
   pushed,
@@ -38,6 +39,12 @@ pub const REQUEST_WEIGHT: u16 = 512;
 pub struct Channels {
     pub items: [u16; WORDS],
     pub lens: [u8; CHANNELS],
+}
+
+// What taking the first item off a channel tells: its word, and the number of items that remain there, requests too.
+pub struct Taken {
+    pub word: u16,
+    pub remaining: u8,
 }
 
 // The index of the channel from one zone to another, both by index. Scan, steps and same call it for zones of a site, which has at most 8.
@@ -101,22 +108,24 @@ pub fn push(items: &mut [u16; WORDS], lens: &mut [u8; CHANNELS], k: usize, word:
 }
 
 // The first item leaves a channel that holds one. Steps calls it behind question 9.
-pub fn pop(items: &mut [u16; WORDS], lens: &mut [u8; CHANNELS], k: usize) -> u16
+pub fn pop(items: &mut [u16; WORDS], lens: &mut [u8; CHANNELS], k: usize) -> Taken
     requires { ⌜ (k < mostChannels) × (0 < getD (now lens) k 0) ⌝ }
     ensures { λ r. ⌜
-        (r ≡ firstOf (channelsAs (now (items .entry)) (now (lens .entry))) k)
+        (r .word ≡ firstOf (channelsAs (now (items .entry)) (now (lens .entry))) k)
+        × (r .remaining ≡ lenOf (channelsAs (now (items .exit)) (now (lens .exit))) k)
         × (channelsAs (now (items .exit)) (now (lens .exit)) ≡ popped (channelsAs (now (items .entry)) (now (lens .entry))) k)
         ⌝ }
 {
     let at = k * PLACES;
     let last = at + LAST;
-    let first = items[at];
+    let word = items[at];
     for i in 0..LAST {
         items[at + i] = items[at + i + 1];
     }
     items[last] = 0;
-    lens[k] = lens[k] - 1;
-    first
+    let remaining = lens[k] - 1;
+    lens[k] = remaining;
+    Taken { word, remaining }
 }
 
 // The number of the highest zone of a set whose channel is full; 0 where all have a free place. The next zone to be looked at is told by the

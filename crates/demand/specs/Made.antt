@@ -11,7 +11,7 @@ use Rattle.run.specs.declared.SiteCall.{SiteCall}
 use Rattle.promises.specs.Answers.{Answers}
 
 -- A list of calls from one run to another: each gets the run that the call before it handed back, after a refusal too. Beside it, the
--- accepted calls in order: "An accepted call is one that answered 0."
+-- accepted calls in order: "An accepted call is one that answered 0." How many items remain stands in the answer too, and nothing here asks it.
 pub data Made : Run → List SiteCall → List Call → Run → Type 0 where
   done : {r : Run} → Made r [] [] r
   then : {r r′ : Run} {c : SiteCall} {cs : List SiteCall} {accepted : List Call} (a : Answer) → Typed c → Answers c r a → Made (a .run) cs accepted r′

@@ -17,6 +17,7 @@ use Rattle.zone.proofs.Examples as zones
 use Rattle.edges.specs.Editions.{lent, editions}
 use Rattle.edges.specs.Gates.{gates}
 use Rattle.edges.specs.Searches.{searches}
+use Rattle.edges.specs.Remaining.{remaining}
 use Rattle.edges.specs.Rows.{
   Row,
   partRow,
@@ -505,4 +506,4 @@ firstEdges =
     ++ journals ++ states
 
 abbrev pub table : List Row
-table = firstEdges ++ editions ++ gates ++ searches
+table = firstEdges ++ editions ++ gates ++ searches ++ remaining

@@ -2,4 +2,5 @@ pub mod Rows
 pub mod Editions
 pub mod Gates
 pub mod Searches
+pub mod Remaining
 pub mod Edges

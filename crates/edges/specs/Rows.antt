@@ -18,6 +18,7 @@ use Rattle.run.specs.Opening.{termsAs, openingAs, openCall}
 use Rattle.run.specs.declared.Opening.{Opening}
 use Rattle.run.specs.declared.Run.{Run}
 use Rattle.run.specs.declared.SiteCall.{SiteCall}
+use Rattle.run.specs.declared.SiteCall.the-variants.{Receive}
 use Rattle.run.specs.declared.Answer.{Answer}
 use Rattle.journal.specs.Reading.{readCall}
 use Rattle.journal.specs.Writing.{Output, writeCall}
@@ -84,15 +85,19 @@ partRow r = record { call = Part (r .answer); expected = part (r .expected) }
 abbrev pub opensIn : ℕ → ℕ → List ℕ → ℕ → Run → Row
 opensIn edition count stocks n r = record {
   call = Open (openingAs (termsAs edition count) stocks);
-  expected = site (record { refusal = n; run = r });
+  expected = site (record { refusal = n; remaining = 0; run = r });
 }
 
 abbrev pub opens : ℕ → List ℕ → ℕ → Run → Row
 opens = opensIn 1
 
--- A call on a run after some calls, with the refusal's number and the run.
+-- A call on a run after some calls that leaves nothing on a receipt's channel, with the refusal's number and the run.
 abbrev pub gives : Run → List SiteCall → SiteCall → ℕ → Run → Row
-gives r cs c n r′ = record { call = Call r cs c; expected = site (record { refusal = n; run = r′ }) }
+gives r cs c n r′ = record { call = Call r cs c; expected = site (record { refusal = n; remaining = 0; run = r′ }) }
+
+-- An accepted receipt by its two zones, with how many items remain on its channel and the run.
+abbrev pub receives : Run → List SiteCall → (from to remaining : ℕ) → Run → Row
+receives r cs from to n r′ = record { call = Call r cs (Receive from to); expected = site (record { refusal = 0; remaining = n; run = r′ }) }
 
 -- A recording of a run after some calls: the refusal's number, the number of bytes written, the recorded total, 0 beside a refusal, and all
 -- the lent bytes after it.
@@ -109,12 +114,16 @@ writes r cs lent n number bytes = record {
   expected = output (record { answer = record { refusal = n; written = number }; bytes = bytes });
 }
 
--- A reading, with the refusal's number, the record's position and the run.
+-- A reading whose last receipt leaves nothing, or that has none, with the refusal's number, the record's position and the run.
 abbrev pub reads : List ℕ → ℕ → ℕ → Run → Row
 reads journal n position r = record {
   call = Read journal;
-  expected = reading (record { refusal = n; position = position; run = r });
+  expected = reading (record { refusal = n; position = position; remaining = 0; run = r });
 }
+
+-- An accepted one, with how many items remained at the last receipt and the run.
+abbrev pub tells : List ℕ → (remaining : ℕ) → Run → Row
+tells journal n r = record { call = Read journal; expected = reading (record { refusal = 0; position = 0; remaining = n; run = r }) }
 
 -- A journal's recording: the refusal's number, the record's position, the number of bytes written, the recorded total, and all the lent bytes
 -- after it.

@@ -9,7 +9,7 @@ use Rattle.rules.specs.declared.Checkpoint.the-variants.{None}
 use Rattle.rules.specs.declared.Local.{Local}
 use Rattle.run.specs.declared.Run.{Run}
 use Rattle.run.specs.declared.SiteCall.the-variants.{Send, Receive, Start}
-use Rattle.edges.specs.Rows.{Row, opens, gives, names, zone, permanent, Channel, channel, runWith}
+use Rattle.edges.specs.Rows.{Row, opens, gives, receives, names, zone, permanent, Channel, channel, runWith}
 
 -- Runs of three zones, opened with 1 car each.
 abbrev pub onesWith : List Local → List Channel → List ℕ → Run
@@ -74,8 +74,8 @@ searches =
     opens 3 (1 ∷ 1 ∷ 1 ∷ []) 0 ones
     ∷ gives ones (Send 2 1 0 ∷ Receive 2 1 ∷ Send 3 1 0 ∷ Receive 3 1 ∷ replicate 16 (Send 1 2 0) ++ replicate 15 (Send 1 3 0)) (Send 1 3 0) 0
     bothFull
-    ∷ gives bothFull [] (Receive 1 3) 0 secondFull
-    ∷ gives bothFull [] (Receive 1 2) 0 thirdFull
+    ∷ receives bothFull [] 1 3 15 secondFull
+    ∷ receives bothFull [] 1 2 15 thirdFull
     -- Of zones 2 and 3 "the highest such zone whose line is full", "and none exactly when all have a place".
     ∷ names bothFull [] 1 6 3
     ∷ names secondFull [] 1 6 2

@@ -241,7 +241,7 @@ module _ (r : Run) (w : WholeRun r) (e : isReplayed r ≡ true) where
   stock-few i =
       let h = reached r w e in
       let o = is-open (openedWith r) (h .opened) in
-      let c = chain (wordsAt r) 0 (firstRun r) (h .accepted) in
+      let c = chain (wordsAt r) 0 0 (firstRun r) (h .accepted) in
       let v : getD (openingStocks r) i 0 ≤ 65535 = omega (arith, item-few (openingStocks r) i, o .fits .cars) in
       let s = saved-few c (opened-whole (openedWith r)) (λ k. subst (λ (x : Site). savedStock (x .zone k .checkpoint) ≤ 65535) (sym (first-site r w e)) (omega arith)) i in
       shown-stock (run (ruleCallsIn (wordsAt r)) (firstSite r) .zone i .checkpoint) (getD (openingStocks r) i 0) 65535

@@ -14,7 +14,7 @@ use Rattle.run.proofs.Whole.{call-whole}
 use Rattle.journal.specs.Format.{decode}
 use Rattle.journal.specs.Reading.{replayed}
 use Rattle.journal.specs.declared.Reading.{Reading}
-use Rattle.journal.proofs.Replays.{has-kind, not-replayed}
+use Rattle.journal.proofs.Replays.{replay-one, not-replayed}
 use Rattle.journal.proofs.Words.{record-decoded}
 use Rattle.recording.specs.Call.{ruleCallsIn}
 use Rattle.run.specs.Calls.{recordOf, answer}
@@ -28,23 +28,23 @@ pub data Chain : List ℕ → Run → Run → Type 0 where
   next : {w : ℕ} {ws : List ℕ} {r t : Run} (c : SiteCall) → decode w ≡ WellFormed c → recordOf c ≡ w → Typed c → isAccepted c r ≡ true
       → Chain ws (answer c r .run) t → Chain (w ∷ ws) r t
 
-pub chain : (ws : List ℕ) (position : ℕ) (r : Run) → replayed ws position r .refusal ≡ 0 → Chain ws r (replayed ws position r .run)
-chain [] position r e = done
-chain (w ∷ ws) position r e = by-record (decode w) refl (chain ws (position + 1))
+pub chain : (ws : List ℕ) (position last : ℕ) (r : Run) → replayed ws position last r .refusal ≡ 0 → Chain ws r (replayed ws position last r .run)
+chain [] position last r e = done
+chain (w ∷ ws) position last r e = by-record (decode w) refl (chain ws (position + 1))
   where
     by-call : (c : SiteCall) (b : Bool) → decode w ≡ WellFormed c → isAccepted c r ≡ b
-        → ((s : Run) → replayed ws (position + 1) s .refusal ≡ 0 → Chain ws s (replayed ws (position + 1) s .run))
-        → Chain (w ∷ ws) r (replayed (w ∷ ws) position r .run)
+        → ((n : ℕ) (s : Run) → replayed ws (position + 1) n s .refusal ≡ 0 → Chain ws s (replayed ws (position + 1) n s .run))
+        → Chain (w ∷ ws) r (replayed (w ∷ ws) position last r .run)
     by-call c true d a more =
-        let q : replayed (w ∷ ws) position r ≡ replayed ws (position + 1) (answer c r .run) = rw (d, has-kind c r a, a, a) in
+        let q = replay-one w ws c position last r d a in
         let (f, t, n) = record-decoded w c d in
         subst (λ (x : Reading). Chain (w ∷ ws) r (x .run)) (sym q)
-        (next c d f t a (more (answer c r .run) (ap (λ (x : Reading). x .refusal) (sym q) ∙ e)))
-    by-call c false d a more = absurd (not-replayed w ws c position r d a e)
+        (next c d f t a (more _ (answer c r .run) (ap (λ (x : Reading). x .refusal) (sym q) ∙ e)))
+    by-call c false d a more = absurd (not-replayed w ws c position last r d a e)
 
     by-record : (x : Record) → decode w ≡ x
-        → ((s : Run) → replayed ws (position + 1) s .refusal ≡ 0 → Chain ws s (replayed ws (position + 1) s .run))
-        → Chain (w ∷ ws) r (replayed (w ∷ ws) position r .run)
+        → ((n : ℕ) (s : Run) → replayed ws (position + 1) n s .refusal ≡ 0 → Chain ws s (replayed ws (position + 1) n s .run))
+        → Chain (w ∷ ws) r (replayed (w ∷ ws) position last r .run)
     by-record Malformed d more = absurd (omega (arith, (rw d at e)))
     by-record (WellFormed c) d more = by-call c (isAccepted c r) d refl more
 

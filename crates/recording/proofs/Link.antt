@@ -305,20 +305,20 @@ map-drop f (suc n) [] = refl
 map-drop f (suc n) (x ∷ xs) = map-drop f n xs
 
 -- From an accepted opening: the items on the channel at an index.
-pub items-are : (o : Opening) (ws : List ℕ) (position : ℕ) → openCall o .refusal ≡ 0
-    → replayed ws position (openedRun o) .refusal ≡ 0 → (sh : List ℕ)
+pub items-are : (o : Opening) (ws : List ℕ) (position last : ℕ) → openCall o .refusal ≡ 0
+    → replayed ws position last (openedRun o) .refusal ≡ 0 → (sh : List ℕ)
     → (k : ℕ) → k < 64
     → getD sh (k / 8) 0 ≡ snapshot (openingOf o) (ruleCallsIn ws) .events (k / 8)
     → getD sh (k % 8) 0 ≡ snapshot (openingOf o) (ruleCallsIn ws) .events (k % 8)
     → itemsAt k sh ws (ordinalsOf ws (openedRun o)) ≡ channelWords (snapshot (openingOf o) (ruleCallsIn ws)) k
-items-are o ws position a e sh k h fi fj =
+items-are o ws position last a e sh k h fi fj =
     let i = k / 8 in
     let j = k % 8 in
     let hi : i < 8 = omega arith in
     let hj : j < 8 = omega arith in
     let shown = snapshot (openingOf o) (ruleCallsIn ws) .events in
     let first = openS (openingOf o) in
-    let c = chain ws position (openedRun o) e in
+    let c = chain ws position last (openedRun o) e in
     let w = opened-whole o in
     let site = opened-site o (is-open o a .fits) in
     let f : channelIndex i j ≡ k = omega arith in

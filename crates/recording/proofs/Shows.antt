@@ -376,7 +376,7 @@ module _ (count i j : ℕ) (most : count ≤ 8) (off : onSite count i j ≡ fals
 module _ (r : Run) (w : WholeRun r) (e : isReplayed r ≡ true) where
   all-sited : All (Sited (countOf (r .head))) (ruleCallsIn (wordsAt r))
   unfolding openedRun
-  all-sited = calls-sited (chain (wordsAt r) 0 (firstRun r) (reached r w e .accepted))
+  all-sited = calls-sited (chain (wordsAt r) 0 0 (firstRun r) (reached r w e .accepted))
 
   lengths : length (openingStocks r) ≡ countOf (r .head)
   lengths = is-open (openedWith r) (reached r w e .opened) .fits .lengths

@@ -52,8 +52,8 @@ firstSite r = openS (openingOf (openedWith r))
 -- The opening is accepted, then the records in turn, and they lead to the same site.
 pub record Reached (r : Run) : Type 0 where
   pub opened : openCall (openedWith r) .refusal ≡ 0
-  pub accepted : replayed (wordsAt r) 0 (firstRun r) .refusal ≡ 0
-  pub site : siteOf (replayed (wordsAt r) 0 (firstRun r) .run) ≡ siteOf r
+  pub accepted : replayed (wordsAt r) 0 0 (firstRun r) .refusal ≡ 0
+  pub site : siteOf (replayed (wordsAt r) 0 0 (firstRun r) .run) ≡ siteOf r
 
 pub reached : (r : Run) → WholeRun r → isReplayed r ≡ true → Reached r
 reached r w e =
@@ -64,9 +64,9 @@ reached r w e =
     let opening : openingIn bytes ≡ openedWith r =
     sym (tells .opening) ∙ ap₂ openingAs (same .terms) (same .opening) in
     let words : recordsIn bytes ≡ wordsAt r = sym (tells .records) ∙ same .journal in
-    let read : readCall bytes ≡ replayed (wordsAt r) 0 (firstRun r) =
+    let read : readCall bytes ≡ replayed (wordsAt r) 0 0 (firstRun r) =
     begins-read bytes (read-begins bytes ok)
-    ∙ ap₂ (λ (ws : List ℕ) (o : Opening). replayed ws 0 (openedRun o)) words opening in
+    ∙ ap₂ (λ (ws : List ℕ) (o : Opening). replayed ws 0 0 (openedRun o)) words opening in
     record {
       opened = ap (λ (o : Opening). openCall o .refusal) (sym opening) ∙ read-comes bytes ok .opened;
       accepted = ap (λ (x : Reading). x .refusal) (sym read) ∙ ok;
@@ -96,7 +96,7 @@ module _ (r : Run) (w : WholeRun r) (e : isReplayed r ≡ true) where
   led : (run (ruleCallsIn (wordsAt r)) (firstSite r) ≡ siteOf r) × Allowed (ruleCallsIn (wordsAt r)) (firstSite r)
   led =
       let h = reached r w e in
-      let (q, a) = leads (chain (wordsAt r) 0 (firstRun r) (h .accepted)) (opened-whole (openedWith r)) in
+      let (q, a) = leads (chain (wordsAt r) 0 0 (firstRun r) (h .accepted)) (opened-whole (openedWith r)) in
       subst (λ (s : Site). (run (ruleCallsIn (wordsAt r)) s ≡ siteOf r) × Allowed (ruleCallsIn (wordsAt r)) s) first-site (q ∙ h .site, a)
 
   -- The site of the run, by the rules, and the calls as the rules ask.
@@ -126,7 +126,7 @@ module _ (r : Run) (w : WholeRun r) (e : isReplayed r ≡ true) where
       → channelWords (snapshotOf r) k ≡ itemsAt k sh (wordsAt r) (ordinalsOf (wordsAt r) (firstRun r))
   items-of sh k h fi fj =
       let q = reached r w e in
-      sym (items-are (openedWith r) (wordsAt r) 0 (q .opened) (q .accepted) sh k h fi fj)
+      sym (items-are (openedWith r) (wordsAt r) 0 0 (q .opened) (q .accepted) sh k h fi fj)
 
   -- All words of a recording, by the zones' checkpoints and the records, where sh lists the events shown of the zones of the site.
   pub zone-words-are : joinBelow (countOf (r .head)) (zoneWords (snapshotOf r)) ≡ joinBelow (countOf (r .head)) (λ i. wordsOf (zoneAt (r .head) i) (getD (r .head .opening .stocks) i 0))

@@ -46,7 +46,7 @@ not-of e = rw e
 
 module _ (r : Run) (w : WholeRun r) (s : SoundRun r) where
   -- The length of a channel of the site.
-  len-is : (a b : ℕ) → Pair (countOf (r .head)) a b → length (siteOf r .channel a b) ≡ lenOf (r .channels) (channelIndex a b)
+  pub len-is : (a b : ℕ) → Pair (countOf (r .head)) a b → length (siteOf r .channel a b) ≡ lenOf (r .channels) (channelIndex a b)
   len-is a b p =
       let o = on-site (countOf (r .head)) a b (s .most) (p .from) (p .to) (p .apart) in
       ap length (channel-on r a b o)

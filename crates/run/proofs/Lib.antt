@@ -14,5 +14,6 @@ pub mod Sound
 pub mod Fifo
 pub mod Journal
 pub mod Accepts
+pub mod Remaining
 pub mod Facts
 pub mod Examples

@@ -81,6 +81,7 @@ pub record Refused (c : SiteCall) (r : Run) : Type 0 where
   pub number : ℕ
   pub among : Among number (callRefusals c)
   pub kept : answer c r .run ≡ r
+  pub none : answer c r .remaining ≡ 0
 
 pub zone-sited : (count zone : ℕ) → isOn count zone ≡ true → (1 ≤ zone) × (index zone < count)
 unfolding isOn
@@ -182,6 +183,7 @@ outcome c r = go (ask-cases (questions c r) (refused r) (granted c r))
           number = h .0;
           among = m;
           kept = ap (λ (x : Answer). x .run) e;
+          none = ap (λ (x : Answer). x .remaining) e;
         })
 
 pub sited : (c : SiteCall) (r : Run) → Passed c r → Sited (countOf (r .head)) (callOf c)
@@ -215,7 +217,7 @@ kept c r e = go (outcome c r)
 
 -- An opening: accepted with every answer yes, or refused with one of its numbers.
 abbrev pub opening : Opening → Answer
-opening o = record { refusal = 0; run = openedRun o }
+opening o = record { refusal = 0; remaining = 0; run = openedRun o }
 
 -- What questions 15 and 2 to 4 ask of an opening.
 pub record Fitting (o : Opening) : Type 0 where

@@ -26,7 +26,7 @@ use Rattle.channel.specs.Channels.{Whole, channelIndex, lenOf, itemsOn, pushed,
 use Rattle.channel.specs.declared.Channels.{Channels}
 use Rattle.channel.proofs.View.{item-message, pop-whole, items-first, items-pushed, items-popped, len-pop-other, requested-items}
 use Rattle.run.specs.State.{noLocal, locals, zoneAt, hasStarted, editionOf, countOf, putBack}
-use Rattle.run.specs.Calls.{accepted, itemReceived, answer, granted, recordOf}
+use Rattle.run.specs.Calls.{changed, itemReceived, answer, granted, recordOf}
 use Rattle.run.specs.Model.{siteOf}
 use Rattle.run.specs.Lists.{callOf, isAccepted}
 use Rattle.run.specs.Claims.{WholeRun, Typed}
@@ -59,7 +59,7 @@ site-changed : (r : Run) (a : ℕ) (l : Channels) (word : ℕ) (g : Local → Lo
     → length (locals (r .head)) ≡ 8 → countOf (r .head) ≤ 8 → a < countOf (r .head)
     → ((i j : ℕ) → onSite (countOf (r .head)) i j ≡ true → itemsOn l (channelIndex i j) ≡ change i j (itemsOn (r .channels) (channelIndex i j)))
     → ((i j : ℕ) → onSite (countOf (r .head)) i j ≡ false → change i j [] ≡ [])
-    → siteOf (accepted r a (g (zoneAt (r .head) a)) l word .run)
+    → siteOf (changed r a (g (zoneAt (r .head) a)) l word)
     ≡ record { edition = siteOf r .edition; zone = λ k. on (eqb k a) g (siteOf r .zone k); channel = λ i j. change i j (siteOf r .channel i j) }
 site-changed r a l word g change w m h inner outer =
     site≡ _ _ refl (λ k. zone k (ltb k (countOf (r .head))) refl) (λ i j. channel i j (onSite (countOf (r .head)) i j) refl)
@@ -122,8 +122,8 @@ popped-free l a b to d h f =
 module _ (r : Run) (w : WholeRun r) (s : SoundRun r) where
   -- A hand-over from a to b.
   sent-site : (a b cars word : ℕ) → Pair (countOf (r .head)) a b → cars < 256 → lenOf (r .channels) (channelIndex a b) < places
-      → siteOf (accepted r a (sentUnder (editionOf (r .head)) cars (zoneAt (r .head) a))
-      (pushed (r .channels) (channelIndex a b) (messageWord (hasCheckpoint (zoneAt (r .head) a .checkpoint)) cars)) word .run)
+      → siteOf (changed r a (sentUnder (editionOf (r .head)) cars (zoneAt (r .head) a))
+      (pushed (r .channels) (channelIndex a b) (messageWord (hasCheckpoint (zoneAt (r .head) a .checkpoint)) cars)) word)
       ≡ sendS a b cars (siteOf r)
   sent-site a b cars word p c free =
       let x = messageWord (hasCheckpoint (zoneAt (r .head) a .checkpoint)) cars in
@@ -142,7 +142,7 @@ module _ (r : Run) (w : WholeRun r) (s : SoundRun r) where
 
   -- Cars through the gate of a.
   gated-site : (d : Direction) (a cars word : ℕ) → a < countOf (r .head)
-      → siteOf (accepted r a (gated d cars (zoneAt (r .head) a)) (r .channels) word .run) ≡ gateS d a cars (siteOf r)
+      → siteOf (changed r a (gated d cars (zoneAt (r .head) a)) (r .channels) word) ≡ gateS d a cars (siteOf r)
   gated-site d a cars word h = site-changed r a (r .channels) word (gated d cars) (λ i j xs. xs) (w .zones) (s .most) h (λ i j e. refl) (λ i j e. refl)
 
   -- Requests that b sends, over channels l: where there is no target, what they would carry does not matter.
@@ -160,7 +160,7 @@ module _ (r : Run) (w : WholeRun r) (s : SoundRun r) where
 
   -- A start by a.
   started-site : (a word : ℕ) → a < countOf (r .head) → allFree (r .channels) a (startBy a r .to) ≡ true
-      → siteOf (accepted r a (startBy a r .local) (requestedAll (r .channels) a (startBy a r .to) (startBy a r .carried)) word .run)
+      → siteOf (changed r a (startBy a r .local) (requestedAll (r .channels) a (startBy a r .to) (startBy a r .carried)) word)
       ≡ startS a (siteOf r)
   unfolding startedBy
   started-site a word h f =
@@ -178,8 +178,8 @@ module _ (r : Run) (w : WholeRun r) (s : SoundRun r) where
   module _ (a b : ℕ) (p : Pair (countOf (r .head)) a b) (some : 0 < lenOf (r .channels) (channelIndex a b)) (word : ℕ) where
     popped-site : (g : Local → Local) (to set : ℕ) → allFree (r .channels) b to ≡ true
         → ((i j : ℕ) → onSite (countOf (r .head)) i j ≡ false → eqb i b && has to j ≡ false)
-        → siteOf (accepted r b (g (zoneAt (r .head) b))
-        (requestedAll (popped (r .channels) (channelIndex a b)) b to (cond (eqb to 0) 0 set)) word .run)
+        → siteOf (changed r b (g (zoneAt (r .head) b))
+        (requestedAll (popped (r .channels) (channelIndex a b)) b to (cond (eqb to 0) 0 set)) word)
         ≡ record {
           edition = siteOf r .edition;
           zone = λ k. on (eqb k b) g (siteOf r .zone k);
@@ -201,7 +201,7 @@ module _ (r : Run) (w : WholeRun r) (s : SoundRun r) where
 
     -- Where there is no target, only the first item leaves.
     quiet-site : (g : Local → Local) → allFree (r .channels) b nobody ≡ true
-        → siteOf (accepted r b (g (zoneAt (r .head) b)) (requestedAll (popped (r .channels) (channelIndex a b)) b nobody nobody) word .run)
+        → siteOf (changed r b (g (zoneAt (r .head) b)) (requestedAll (popped (r .channels) (channelIndex a b)) b nobody nobody) word)
         ≡ record {
           edition = siteOf r .edition;
           zone = λ k. on (eqb k b) g (siteOf r .zone k);
@@ -215,7 +215,7 @@ module _ (r : Run) (w : WholeRun r) (s : SoundRun r) where
     abbrev receivedAs : Requesting → Site
     receivedAs got =
         let l = requestedAll (popped (r .channels) (channelIndex a b)) b (got .to) (got .carried) in
-        siteOf (accepted r b (got .local) l word .run)
+        siteOf (changed r b (got .local) l word)
 
     request-site : (set : ℕ) (q : Bool) → isPermanent (zoneAt (r .head) b .checkpoint) ≡ q
         → allFree (r .channels) b (requestedBy b set (zoneAt (r .head) b) .to) ≡ true

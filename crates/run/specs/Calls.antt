@@ -100,6 +100,13 @@ channelsAfter (Start zone) t z l =
     requestedAll l (index zone) (got .to) (got .carried)
 channelsAfter (Gate direction zone cars) t z l = l
 
+-- "how many remain on it": the items on the channel of a receipt, requests too; 0 of a call that is no receipt.
+abbrev pub remainingOn : SiteCall → Channels → ℕ
+remainingOn (Send from to cars) l = 0
+remainingOn (Receive from to) l = lenOf l (channelIndex (index from) (index to))
+remainingOn (Start zone) l = 0
+remainingOn (Gate direction zone cars) l = 0
+
 -- Its record.
 abbrev pub recordOf : SiteCall → ℕ
 recordOf (Send from to cars) = sendRecord (index from) (index to) cars
@@ -123,19 +130,21 @@ questions c r =
 
 -- "The refusal is the number"; a refused call hands back the run unchanged.
 abbrev pub refused : Run → ℕ → Answer
-refused r n = record { refusal = n; run = r }
+refused r n = record { refusal = n; remaining = 0; run = r }
 
 -- A zone and the channels have changed, and "each accepted call adds its record".
-abbrev pub accepted : Run → ℕ → Local → Channels → ℕ → Answer
-accepted r at z l word = record {
-  refusal = 0;
-  run = runAs (putBack (r .head) at z (r .head .records + 1)) l (set (r .journal) (r .head .records) word);
-}
+abbrev pub changed : Run → ℕ → Local → Channels → ℕ → Run
+changed r at z l word = runAs (putBack (r .head) at z (r .head .records + 1)) l (set (r .journal) (r .head .records) word)
 
-abbrev pub granted : SiteCall → Run → Answer
-granted c r =
+-- The run after an accepted call.
+abbrev pub runAfter : SiteCall → Run → Run
+runAfter c r =
     let t = termsOf (r .head) in
-    accepted r (actor c) (zoneAfter c t (actorIn c r) (r .channels)) (channelsAfter c t (actorIn c r) (r .channels)) (recordOf c)
+    changed r (actor c) (zoneAfter c t (actorIn c r) (r .channels)) (channelsAfter c t (actorIn c r) (r .channels)) (recordOf c)
+
+-- How many remain "is counted after the receipt": in the run that the call hands back.
+abbrev pub granted : SiteCall → Run → Answer
+granted c r = record { refusal = 0; remaining = remainingOn c (runAfter c r .channels); run = runAfter c r }
 
 -- The answer of a call.
 unfoldable pub answer : SiteCall → Run → Answer

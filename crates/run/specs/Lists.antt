@@ -1,6 +1,6 @@
 -- Lists of calls on one run: "The first gets the run that the opening handed back, each later one the run that the call before it handed
 -- back, after a refusal too."
-use mathlib.Core.Bool.{Bool, cond, _&&_}
+use mathlib.Core.Bool.{Bool, true, false, cond, _&&_}
 use mathlib.Core.List.{List, [], _∷_, _++_}
 use Prim.Native.Nat.{ℕ}
 use lib.Dec.{eqb}
@@ -34,6 +34,18 @@ after (c ∷ cs) r = after cs (answer c r .run)
 abbrev pub acceptedCalls : List SiteCall → Run → List Call
 acceptedCalls [] r = []
 acceptedCalls (c ∷ cs) r = cons-if (isAccepted c r) (callOf c) (acceptedCalls cs (answer c r .run))
+
+-- Is the call a receipt?
+abbrev pub isReceipt : SiteCall → Bool
+isReceipt (Send from to cars) = false
+isReceipt (Receive from to) = true
+isReceipt (Start zone) = false
+isReceipt (Gate direction zone cars) = false
+
+-- What the last accepted receipt of a list answered of the items that remain, "0 without one"; `last` is that of the calls before the list.
+abbrev pub lastRemaining : (last : ℕ) → List SiteCall → Run → ℕ
+lastRemaining last [] r = last
+lastRemaining last (c ∷ cs) r = lastRemaining (cond (isAccepted c r && isReceipt c) (answer c r .remaining) last) cs (answer c r .run)
 
 -- The messages ("hand-overs") of a list of items.
 abbrev pub messages : List Item → List Item

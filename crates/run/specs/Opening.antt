@@ -65,7 +65,7 @@ abbrev pub fallback : Opening
 fallback = openingAs (termsAs firstEdition fewestZones) (0 ∷ 0 ∷ [])
 
 abbrev pub unopened : ℕ → Answer
-unopened n = record { refusal = n; run = openedRun fallback }
+unopened n = record { refusal = n; remaining = 0; run = openedRun fallback }
 
 unfoldable pub openCall : Opening → Answer
-openCall o = ask (openQuestions o) unopened (record { refusal = 0; run = openedRun o })
+openCall o = ask (openQuestions o) unopened (record { refusal = 0; remaining = 0; run = openedRun o })

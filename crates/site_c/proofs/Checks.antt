@@ -16,7 +16,7 @@ use Rattle.run.specs.declared.SiteCall.{SiteCall}
 use Rattle.run.specs.declared.SiteCall.the-variants.{Send, Receive}
 use Rattle.run.proofs.Checks.{check-sent, check-received}
 use Rattle.run.proofs.Whole.{call-whole}
-use Rattle.site_c.specs.Plain.{areKinds, runOf, plainRun, refusedPlain, answerPlain, callPlain}
+use Rattle.site_c.specs.Plain.{areKinds, runOf, plainAnswer, refusedPlain, answerPlain, callPlain}
 use Rattle.site_c.specs.declared.PlainRun.{PlainRun}
 use Rattle.site_c.proofs.Lists.{run-back}
 
@@ -30,7 +30,7 @@ module _ (p : PlainRun) (w : WholeRun (runOf p)) (k : ℕ) where
   kept-plain c e = go (areKinds (p .head .zones)) (eqb (answer c (runOf p) .refusal) 0)
     where
       go : (kinds accepted : Bool)
-          → zoneK (runOf (cond kinds (cond accepted (record { refusal = 0; run = plainRun (answer c (runOf p) .run) })
+          → zoneK (runOf (cond kinds (cond accepted (plainAnswer (answer c (runOf p)))
           (refusedPlain p (answer c (runOf p) .refusal))) (refusedPlain p 1) .run)) ≡ zoneK (runOf p)
       go true true = ap zoneK (run-back (answer c (runOf p) .run) (call-whole c (runOf p) w)) ∙ e
       go true false = refl

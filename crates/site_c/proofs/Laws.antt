@@ -20,7 +20,7 @@ use Rattle.site_c.specs.declared.PlainRun.{PlainRun}
 
 -- A mark kind above 2.
 pub call-unkind : (c : SiteCall) (p : PlainRun) → areKinds (p .head .zones) ≡ false
-    → record { run = p; refusal = 1 } ≡ callPlain c p
+    → record { run = p; refusal = 1; remaining = 0 } ≡ callPlain c p
 unfolding callPlain
 call-unkind c p e = rw e
 
@@ -33,7 +33,7 @@ module _ (c : SiteCall) (h : PlainHead) (is ls js : List ℕ) (kinds : areKinds 
   told : lent.answerIn t items lens journal ≡ answer c (runOf p)
   told = e ∙ ap (λ (x : Head). answer c (lent.runIn x is ls js)) q
 
-  pub call-refused : t .refusal ≢ 0 → answerIn (record { head = h; refusal = t .refusal }) items lens journal ≡ callPlain c p
+  pub call-refused : t .refusal ≢ 0 → answerIn (record { head = h; refusal = t .refusal; remaining = 0 }) items lens journal ≡ callPlain c p
   unfolding callPlain answerPlain
   call-refused d =
       let k = kept c (runOf p) (ap (λ (a : Answer). eqb (a .refusal) 0) (sym told) ∙ ne-eqb _ _ d) in
@@ -48,6 +48,6 @@ module _ (c : SiteCall) (h : PlainHead) (is ls js : List ℕ) (kinds : areKinds 
       )
 
   pub call-accepted : (after : PlainHead) → t .refusal ≡ 0 → after ≡ plainHead (t .head)
-      → answerIn (record { head = after; refusal = 0 }) items lens journal ≡ callPlain c p
+      → answerIn (record { head = after; refusal = 0; remaining = t .remaining }) items lens journal ≡ callPlain c p
   unfolding callPlain answerPlain
-  call-accepted after z f = rw (kinds, ← told, eq-eqb _ _ z, f)
+  call-accepted after z f = rw (kinds, ← told, eq-eqb _ _ z, z, f)

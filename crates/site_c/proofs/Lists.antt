@@ -6,7 +6,7 @@ use mathlib.Core.Logic.{_≢_}
 use mathlib.Core.List.{List, [], _∷_}
 use Prim.Native.Nat.{ℕ, _<_}
 use lib.Dec.{leb, eqb}
-use borrow.Author.Tests.{eqb-true}
+use borrow.Author.Tests.{eqb-true, eqb-false}
 use lib.ListN.{length, getD}
 use lib.Seq.{ext-getD}
 use Rattle.rules.specs.declared.Checkpoint.{Checkpoint}
@@ -19,6 +19,7 @@ use Rattle.run.specs.Calls.{answer}
 use Rattle.run.specs.declared.Run.{Run}
 use Rattle.run.proofs.BelowLaws.{all-of, length-below, list-at}
 use Rattle.run.proofs.Outcome.{kept}
+use Rattle.run.proofs.Remaining.{refused-none}
 use Rattle.run.proofs.Whole.{call-whole, open-whole}
 use Rattle.journal.specs.Writing.{writeCall}
 use Rattle.journal.specs.Reading.{readCall}
@@ -27,7 +28,8 @@ use Rattle.recording.specs.Journal.{recordJournal}
 use Rattle.recording.proofs.Totals.{no-total, read-total, journal-no-total}
 use Rattle.zone_c.specs.Plain.{kindOf}
 use Rattle.zone_c.proofs.Laws.{mark-back}
-use Rattle.site_c.specs.Plain.{localOf, plainLocal, noPlain, plainAt, localsOf, plainLocals, areKinds, runOf, plainRun, plainAnswer, answerPlain, openPlain, callPlain, afterPlain, plainOutput, plainRecording, PlainOutput, refusedPlainOutput, recordPlain, recordedPlain, writePlain}
+use Rattle.site_c.specs.Plain.{localOf, plainLocal, noPlain, plainAt, localsOf, plainLocals, areKinds, runOf, plainRun, plainAnswer, refusedPlain, answerPlain, openPlain, callPlain, afterPlain, plainOutput, plainRecording, PlainOutput, refusedPlainOutput, recordPlain, recordedPlain, writePlain}
+use Rattle.site_c.specs.declared.PlainAnswer.{PlainAnswer}
 use Rattle.site_c.specs.declared.PlainRun.{PlainRun}
 use Rattle.run.specs.Opening.{openCall, termsAs, openingAs}
 use Rattle.run.specs.declared.SiteCall.{SiteCall}
@@ -70,11 +72,27 @@ told c r = go (eqb (answer c r .refusal) 0) refl
   where
     go : (b : Bool) → eqb (answer c r .refusal) 0 ≡ b → answerPlain (plainRun r) (answer c r) ≡ plainAnswer (answer c r)
     go true e = rw (eqb-true (answer c r .refusal) 0 e)
-    go false e = rw (e, kept c r e)
+    go false e = rw (e, kept c r e, refused-none c r (eqb-false (answer c r .refusal) 0 e))
 
 pub call-plain : (c : SiteCall) (r : Run) → WholeRun r → callPlain c (plainRun r) ≡ plainAnswer (answer c r)
 unfolding callPlain
 call-plain c r w = rw (kinds (locals (r .head)), run-back r w) (told c r)
+
+-- C is answered how many items remain as the engine's caller is; and 0 beside a refusal, whatever the run.
+pub call-plain-remaining : (c : SiteCall) (r : Run) → WholeRun r → callPlain c (plainRun r) .remaining ≡ answer c r .remaining
+call-plain-remaining c r w = ap (λ (a : PlainAnswer). a .remaining) (call-plain c r w)
+
+pub call-plain-none : (c : SiteCall) (p : PlainRun) → callPlain c p .refusal ≢ 0 → callPlain c p .remaining ≡ 0
+unfolding callPlain answerPlain
+call-plain-none c p = go (areKinds (p .head .zones)) (eqb (answer c (runOf p) .refusal) 0)
+  where
+    out : (kinds accepted : Bool) → PlainAnswer
+    out kinds accepted = cond kinds (cond accepted (plainAnswer (answer c (runOf p))) (refusedPlain p (answer c (runOf p) .refusal))) (refusedPlain p 1)
+
+    go : (kinds accepted : Bool) → out kinds accepted .refusal ≢ 0 → out kinds accepted .remaining ≡ 0
+    go true true h = refused-none c (runOf p) h
+    go true false h = refl
+    go false accepted h = refl
 
 pub calls-plain : (cs : List SiteCall) (r : Run) → WholeRun r → afterPlain cs (plainRun r) ≡ plainRun (after cs r)
 calls-plain [] r w = refl

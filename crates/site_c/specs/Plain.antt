@@ -81,20 +81,20 @@ runOf p = runIn (headOf (p .head)) (p .items) (p .lens) (p .journal)
 abbrev pub plainRun : Run → PlainRun
 plainRun r = record { head = plainHead (r .head); items = r .channels .items; lens = r .channels .lens; journal = r .journal }
 
--- A refused run is left as it came.
-abbrev pub refusedPlain : PlainRun → ℕ → PlainAnswer
-refusedPlain p n = record { refusal = n; run = p }
-
-unfoldable pub answerPlain : PlainRun → Answer → PlainAnswer
-answerPlain p a = cond (eqb (a .refusal) 0) (record { refusal = 0; run = plainRun (a .run) }) (refusedPlain p (a .refusal))
-
 -- A whole answer of the engine, as C gets it.
 abbrev pub plainAnswer : Answer → PlainAnswer
-plainAnswer a = record { refusal = a .refusal; run = plainRun (a .run) }
+plainAnswer a = record { refusal = a .refusal; remaining = a .remaining; run = plainRun (a .run) }
+
+-- A refused run is left as it came.
+abbrev pub refusedPlain : PlainRun → ℕ → PlainAnswer
+refusedPlain p n = record { refusal = n; remaining = 0; run = p }
+
+unfoldable pub answerPlain : PlainRun → Answer → PlainAnswer
+answerPlain p a = cond (eqb (a .refusal) 0) (plainAnswer a) (refusedPlain p (a .refusal))
 
 -- The answer on the whole run, of what a call answers and leaves in the lent arrays.
 abbrev pub answerIn : PlainHeadAnswer → List ℕ → List ℕ → List ℕ → PlainAnswer
-answerIn t items lens journal = record { refusal = t .refusal; run = plainIn (t .head) items lens journal }
+answerIn t items lens journal = record { refusal = t .refusal; remaining = t .remaining; run = plainIn (t .head) items lens journal }
 
 -- A mark kind above 2 is unsound: question 1 is answered no.
 abbrev pub ifKinds : PlainRun → PlainAnswer → PlainAnswer
@@ -142,7 +142,7 @@ writePlain p lent = cond (areKinds (p .head .zones)) (plainOutput (writeCall (ru
 abbrev pub readPlain : List ℕ → PlainReading
 readPlain bytes =
     let t = readCall bytes in
-    record { refusal = t .refusal; position = t .position; run = plainRun (t .run) }
+    record { refusal = t .refusal; position = t .position; remaining = t .remaining; run = plainRun (t .run) }
 
 -- A journal's recording.
 abbrev pub recordedPlain : JournalRecorded → PlainWritten

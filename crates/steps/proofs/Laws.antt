@@ -20,10 +20,10 @@ use Rattle.channel.specs.Words.{itemOf, carsIn, setIn, messageWord}
 use Rattle.channel.specs.Channels.{channelsAs, isChannel, channelIndex, lenOf, pushed, popped, firstOf, allFree, requestedAll}
 use Rattle.channel.specs.declared.Channels.{Channels}
 use Rattle.channel.proofs.Search.{free-nobody}
-use Rattle.channel.proofs.View.{requested-nobody}
+use Rattle.channel.proofs.View.{requested-nobody, requested-other}
 use Rattle.local.specs.Requesting.{startedBy}
 use Rattle.local.specs.declared.Requesting.{Requesting}
-use Rattle.run.specs.Calls.{actor, isNamed, itemReceived, editionQuestions, ownGateQuestions, zoneAfter, channelsAfter, refused, granted, answer, firstReceived, recordOf}
+use Rattle.run.specs.Calls.{actor, isNamed, itemReceived, editionQuestions, ownGateQuestions, zoneAfter, channelsAfter, remainingOn, refused, granted, answer, firstReceived, recordOf, isPair}
 use Rattle.run.specs.State.{runAs, termsOf, partsSound, countOf, zoneAt, putBack, hasStarted, stocks, carsOnChannels}
 use Rattle.run.specs.declared.Answer.{Answer}
 use Rattle.run.specs.declared.Head.{Head}
@@ -112,7 +112,7 @@ module _ (terms : Terms) (from to cars : ℕ) (z : Local) (l : Channels) (starte
   -- Accepted: the message, with the flag of the sender's checkpoint, is pushed at the channel's index.
   pub send-0 : (k word : ℕ) (flag : Bool) (zone : Local) (after : Channels) → k ≡ channelIndex (index from) (index to) → cars ≤ z .stock
       → lenOf l k < 16 → flag ≡ hasCheckpoint (z .checkpoint) → word ≡ messageWord flag cars → after ≡ pushed l k word → zone ≡ sentUnder (terms .edition) cars z
-      → record { effect = record { refusal = 0; zone = zone }; channels = after } ≡ ownEffect (Send from to cars) terms z l started held
+      → record { effect = record { refusal = 0; remaining = 0; zone = zone }; channels = after } ≡ ownEffect (Send from to cars) terms z l started held
   unfolding ownEffect
   send-0 k word flag zone after e covers h f g p q = rw (q, p, g, f, e, le-leb _ _ covers, lt-ltb _ _ (subst (λ (n : ℕ). lenOf l n < 16) e h))
 
@@ -138,19 +138,27 @@ module _ (terms : Terms) (from to : ℕ) (z : Local) (l : Channels) (started : B
     unfolding ownEffect
     receive-10 o g h = rw (g, ne-eqb _ _ here, targets-free false h)
 
-    -- Accepted: the item leaves its channel, and the requests join theirs.
-    pub receive-0 : (popping after : Channels) → allFree l (index to) (got .to) ≡ true → popping ≡ popped l k
-        → after ≡ requestedAll popping (index to) (got .to) (got .carried)
-        → record { effect = record { refusal = 0; zone = got .local }; channels = after } ≡ ownEffect (Receive from to) terms z l started held
+    -- Accepted: the item leaves its channel, and the requests join theirs, which are the receiver's: what remains is as it was before them.
+    pub receive-0 : (popping after : Channels) (remaining : ℕ) → isPair 8 from to ≡ true → allFree l (index to) (got .to) ≡ true
+        → popping ≡ popped l k → remaining ≡ lenOf popping k → after ≡ requestedAll popping (index to) (got .to) (got .carried)
+        → record { effect = record { refusal = 0; remaining = remaining; zone = got .local }; channels = after }
+        ≡ ownEffect (Receive from to) terms z l started held
     unfolding ownEffect
-    receive-0 popping after h p q = rw (q, p, takes, e, ne-eqb _ _ here, targets-free true h)
+    receive-0 popping after remaining named h p m q =
+        let two = pair 8 from to named in
+        let alone : lenOf after (channelIndex (index from) (index to)) ≡ remaining =
+        ap (λ (c : Channels). lenOf c (channelIndex (index from) (index to))) q
+        ∙ requested-other popping (index to) (got .to) (got .carried) (index from) (index to) (two .apart) (two .to)
+        ∙ ap (lenOf popping) (sym e) ∙ sym m in
+        rw (← alone, q, p, takes, e, ne-eqb _ _ here, targets-free true h)
 
   -- The same where no request is sent: no channel is asked, and none but the item's own changes.
   pub receive-quiet : lenOf l k ≢ 0 → (got : Requesting) → got ≡ itemReceived (terms .edition) (index from) (index to) (itemOf (firstOf l k)) z → got .to ≡ 0
-      → (popping : Channels) → popping ≡ popped l k
-      → record { effect = record { refusal = 0; zone = got .local }; channels = popping } ≡ ownEffect (Receive from to) terms z l started held
-  receive-quiet holds got takes h popping p =
-      receive-0 holds got takes popping popping (rw (h) (free-nobody l (index to))) p (rw (h, requested-nobody) refl)
+      → (popping : Channels) (remaining : ℕ) → isPair 8 from to ≡ true → popping ≡ popped l k → remaining ≡ lenOf popping k
+      → record { effect = record { refusal = 0; remaining = remaining; zone = got .local }; channels = popping }
+      ≡ ownEffect (Receive from to) terms z l started held
+  receive-quiet holds got takes h popping remaining named p m =
+      receive-0 holds got takes popping popping remaining named (rw (h) (free-nobody l (index to))) p m (rw (h, requested-nobody) refl)
 
 -- The effect of a start.
 module _ (terms : Terms) (zone : ℕ) (z : Local) (l : Channels) (started : Bool) (held : ℕ) where
@@ -167,7 +175,7 @@ module _ (terms : Terms) (zone : ℕ) (z : Local) (l : Channels) (started : Bool
 
     -- Accepted: the requests join their channels.
     pub start-0 : (after : Channels) → allFree l (index zone) (got .to) ≡ true → after ≡ requestedAll l (index zone) (got .to) (got .carried)
-        → record { effect = record { refusal = 0; zone = got .local }; channels = after } ≡ ownEffect (Start zone) terms z l started held
+        → record { effect = record { refusal = 0; remaining = 0; zone = got .local }; channels = after } ≡ ownEffect (Start zone) terms z l started held
     unfolding ownEffect
     start-0 after h q =
         rw (q, starts, first, subst (λ (g : Requesting). allFree l (index zone) (g .to) ≡ true) starts h)
@@ -238,10 +246,10 @@ module _ (terms : Terms) (d : Direction) (zone cars : ℕ) (z : Local) (l : Chan
       nonzero Out = refl
 
   pub gate-0 : (after : Local) → last ≡ 0 → after ≡ gated d cars z
-      → record { effect = record { refusal = 0; zone = after }; channels = l } ≡ ownEffect (Gate d zone cars) terms z l started held
+      → record { effect = record { refusal = 0; remaining = 0; zone = after }; channels = l } ≡ ownEffect (Gate d zone cars) terms z l started held
   unfolding ownEffect
   gate-0 after e g =
-      ap (λ (x : Local). record { effect = record { refusal = 0; zone = x }; channels = l }) g
+      ap (λ (x : Local). record { effect = record { refusal = 0; remaining = 0; zone = x }; channels = l }) g
       ∙ sym (ask-yes (ownGateQuestions d cars (z .stock) held) _ _ (gate-yes e))
 
   -- The stock stays within 16 bits.
@@ -279,7 +287,10 @@ module _ (h : Head) (terms : Terms) (records : ℕ) (c : SiteCall) (z : Local) (
   rest = rw (← s .opened, ← s .number, ← s .acting, s .sound, sum)
 
   abbrev granting : Effected
-  granting = record { effect = record { refusal = 0; zone = zoneAfter c terms z l }; channels = channelsAfter c terms z l }
+  granting = record {
+    effect = record { refusal = 0; remaining = remainingOn c (channelsAfter c terms z l); zone = zoneAfter c terms z l };
+    channels = channelsAfter c terms z l;
+  }
 
   abbrev denied : ℕ → Effected
   denied n = record { effect = unchanged n z; channels = l }
@@ -300,12 +311,12 @@ module _ (h : Head) (terms : Terms) (records : ℕ) (c : SiteCall) (z : Local) (
       go (inr (n, m, p, q)) = inr (n, not-among n 0 (numbers further) m nonzero, p, rest ∙ q)
 
   module _ (made : Effect) (items lens : List ℕ) (e : effectAs made items lens ≡ effect c terms records z l (hasStarted h) held) where
-    pub effect-refused : made .refusal ≢ 0 → record { refusal = made .refusal; run = runAs h (channelsAs items lens) journal } ≡ answer c run
+    pub effect-refused : made .refusal ≢ 0 → record { refusal = made .refusal; remaining = 0; run = runAs h (channelsAs items lens) journal } ≡ answer c run
     effect-refused d = go together
       where
-        go : Together → record { refusal = made .refusal; run = runAs h (channelsAs items lens) journal } ≡ answer c run
+        go : Together → record { refusal = made .refusal; remaining = 0; run = runAs h (channelsAs items lens) journal } ≡ answer c run
         go (inl (p, q)) = absurd (d (ap (λ (x : Effected). x .effect .refusal) (e ∙ p)))
-        go (inr (n, k, p, q)) = ap (λ (x : Effected). record { refusal = x .effect .refusal; run = runAs h (x .channels) journal }) (e ∙ p) ∙ sym q
+        go (inr (n, k, p, q)) = ap (λ (x : Effected). record { refusal = x .effect .refusal; remaining = 0; run = runAs h (x .channels) journal }) (e ∙ p) ∙ sym q
 
     -- An accepted call names its zones rightly, and there is room for its record.
     pub effect-asked : made .refusal ≡ 0 → (isNamed (terms .count) c ≡ true) × (records < 1000)
@@ -323,12 +334,12 @@ module _ (h : Head) (terms : Terms) (records : ℕ) (c : SiteCall) (z : Local) (
     after = putBack h (actor c) (made .zone) (records + 1)
 
     pub effect-accepted : made .refusal ≡ 0
-        → record { refusal = 0; run = runAs after (channelsAs items lens) (set journal records (recordOf c)) } ≡ answer c run
+        → record { refusal = 0; remaining = made .remaining; run = runAs after (channelsAs items lens) (set journal records (recordOf c)) } ≡ answer c run
     effect-accepted d = go together
       where
-        go : Together → record { refusal = 0; run = runAs after (channelsAs items lens) (set journal records (recordOf c)) } ≡ answer c run
+        go : Together → record { refusal = 0; remaining = made .remaining; run = runAs after (channelsAs items lens) (set journal records (recordOf c)) } ≡ answer c run
         go (inl (p, q)) =
-            ap (λ (x : Effected). record { refusal = 0; run = runAs (putBack h (actor c) (x .effect .zone) (records + 1)) (x .channels) (set journal records (recordOf c)) }) (e ∙ p)
+            ap (λ (x : Effected). record { refusal = 0; remaining = x .effect .remaining; run = runAs (putBack h (actor c) (x .effect .zone) (records + 1)) (x .channels) (set journal records (recordOf c)) }) (e ∙ p)
             ∙ rw (← s .opened, ← s .acting, ← s .number) (sym q)
         go (inr (n, k, p, q)) = absurd (k (sym (ap (λ (x : Effected). x .effect .refusal) (e ∙ p)) ∙ d))
 
@@ -338,11 +349,11 @@ pub stood : (h : Head) (terms : Terms) (c : SiteCall) (z : Local) (l : Channels)
 stood h terms c z l k t e q s = record { opened = t; number = refl; acting = ap (zoneAt h) (sym e) ∙ sym q; sound = s }
 
 -- The answer on the run, once the zone that acted is put back at index k and the record is a word.
-pub put : (h after : Head) (c : SiteCall) (z : Local) (k word : ℕ) (items lens journal : List ℕ) (x : Answer) → k ≡ actor c → word ≡ recordOf c
+pub put : (h after : Head) (c : SiteCall) (z : Local) (k word remaining : ℕ) (items lens journal : List ℕ) (x : Answer) → k ≡ actor c → word ≡ recordOf c
     → after ≡ putBack h k z (h .records + 1)
-    → record { refusal = 0; run = runAs (putBack h (actor c) z (h .records + 1)) (channelsAs items lens) (set journal (h .records) (recordOf c)) } ≡ x
-    → record { refusal = 0; run = runAs after (channelsAs items lens) (set journal (h .records) word) } ≡ x
-put h after c z k word items lens journal x e w q s = rw (q, e, w) s
+    → record { refusal = 0; remaining = remaining; run = runAs (putBack h (actor c) z (h .records + 1)) (channelsAs items lens) (set journal (h .records) (recordOf c)) } ≡ x
+    → record { refusal = 0; remaining = remaining; run = runAs after (channelsAs items lens) (set journal (h .records) word) } ≡ x
+put h after c z k word remaining items lens journal x e w q s = rw (q, e, w) s
 
 -- What holds of a call holds of the same call as an arm of a match has it.
 module _ (terms : Terms) (records : ℕ) (z : Local) (l : Channels) (c d : SiteCall) (e : c ≡ d) where

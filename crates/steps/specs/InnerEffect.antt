@@ -8,7 +8,7 @@ use Rattle.rules.specs.Questions.{Question, question, ask}
 use Rattle.rules.specs.declared.Local.{Local}
 use Rattle.channel.specs.Channels.{channelsAs}
 use Rattle.channel.specs.declared.Channels.{Channels}
-use Rattle.run.specs.Calls.{isNamed, editionQuestions, ownQuestions, zoneAfter, channelsAfter}
+use Rattle.run.specs.Calls.{isNamed, editionQuestions, ownQuestions, zoneAfter, channelsAfter, remainingOn}
 use Rattle.run.specs.declared.SiteCall.{SiteCall}
 use Rattle.run.specs.declared.Terms.{Terms}
 use Rattle.steps.specs.declared.Effect.{Effect}
@@ -22,13 +22,16 @@ abbrev pub effectAs : Effect → List ℕ → List ℕ → Effected
 effectAs e items lens = record { effect = e; channels = channelsAs items lens }
 
 abbrev pub unchanged : ℕ → Local → Effect
-unchanged n z = record { refusal = n; zone = z }
+unchanged n z = record { refusal = n; remaining = 0; zone = z }
 
 -- What a list of questions leaves of a call: refused with the first number, all stays.
 abbrev pub outcomeOf : List Question → SiteCall → Terms → Local → Channels → Effected
 outcomeOf qs c t z l =
     ask qs (λ n. record { effect = unchanged n z; channels = l })
-    (record { effect = record { refusal = 0; zone = zoneAfter c t z l }; channels = channelsAfter c t z l })
+    (record {
+      effect = record { refusal = 0; remaining = remainingOn c (channelsAfter c t z l); zone = zoneAfter c t z l };
+      channels = channelsAfter c t z l;
+    })
 
 -- Behind 6, a call's own questions decide.
 unfoldable pub ownEffect : SiteCall → Terms → Local → Channels → Bool → ℕ → Effected

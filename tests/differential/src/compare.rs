@@ -99,11 +99,16 @@ impl Answer for PlainAnswer {
 
     fn check(&self, proved: &Self) -> Check {
         one("refusal", self.refusal, proved.refusal)?;
+        one("remaining", self.remaining, proved.remaining)?;
         runs(&self.run, &proved.run)
     }
 
     fn text(&self) -> String {
-        format!("refusal {}, run:\n{}", self.refusal, text::run(&self.run))
+        let run = text::run(&self.run);
+        format!(
+            "refusal {}, remaining {}, run:\n{run}",
+            self.refusal, self.remaining
+        )
     }
 }
 
@@ -115,14 +120,15 @@ impl Answer for PlainReading {
     fn check(&self, proved: &Self) -> Check {
         one("refusal", self.refusal, proved.refusal)?;
         one("position", self.position, proved.position)?;
+        one("remaining", self.remaining, proved.remaining)?;
         runs(&self.run, &proved.run)
     }
 
     fn text(&self) -> String {
         let run = text::run(&self.run);
         format!(
-            "refusal {}, position {}, run:\n{run}",
-            self.refusal, self.position
+            "refusal {}, position {}, remaining {}, run:\n{run}",
+            self.refusal, self.position, self.remaining
         )
     }
 }

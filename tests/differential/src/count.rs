@@ -2,6 +2,7 @@
 
 use crate::compare::{Answer, Difference};
 use second::edition::{has_gates, EDITIONS};
+use second::site::PLACES;
 
 /// The calls of the library.
 #[derive(Clone, Copy, Debug, PartialEq, Eq)]
@@ -207,12 +208,70 @@ impl Gates {
     }
 }
 
+/// An accepted receipt.
+#[derive(Clone, Copy, Debug)]
+pub struct Receipt {
+    pub edition: u32,
+    /// Whether it took a request.
+    pub request: bool,
+    /// How many items remain on its line, and whether a request is among them.
+    pub left: usize,
+    pub leaves_request: bool,
+}
+
+/// What was met of how many items remain on the line of a receipt.
+#[derive(Clone, Debug, Default, PartialEq, Eq)]
+pub struct Remaining {
+    /// Accepted receipts by edition, then by how many items they left.
+    pub left: [[u64; PLACES]; EDITIONS.len()],
+    /// Those that took a request and left something behind it.
+    pub behind_requests: u64,
+    /// Those that left a request.
+    pub requests: u64,
+    /// Readings whose last receipt left something.
+    pub readings: u64,
+    /// Readings whose last receipt left another number than is on its line in the end.
+    pub changed: u64,
+    /// Readings without a receipt.
+    pub without: u64,
+    /// Readings refused with 18 or 19 behind a receipt that left something.
+    pub refused: u64,
+}
+
+impl Remaining {
+    /// What must have been met beside the numbers, by name, with the times and how often it is needed.
+    fn others(&self) -> Vec<(String, u64, u64)> {
+        [
+            (
+                "receipts of a request with items behind it",
+                self.behind_requests,
+            ),
+            ("receipts that leave a request on the line", self.requests),
+            ("readings whose last receipt left items", self.readings),
+            (
+                "readings whose last receipt left another number than waits in the end",
+                self.changed,
+            ),
+            ("readings without a receipt", self.without),
+            (
+                "readings refused behind a receipt that left items",
+                self.refused,
+            ),
+        ]
+        .map(|(name, times)| (name.to_string(), times, LEAST_REMAINING))
+        .to_vec()
+    }
+}
+
 /// How often each number of each call must be met under each heading.
 pub const LEAST_ANSWERS: u64 = 100;
 /// How often each kind of hand-over of 0 cars must be taken in each edition.
 pub const LEAST_CHECKS: u64 = 100;
 /// How often each of what is counted of gates must be met.
 pub const LEAST_GATES: u64 = 100;
+/// How often each number of items must remain at a receipt of each edition, and what else is counted of
+/// them must be met.
+pub const LEAST_REMAINING: u64 = 100;
 /// How many complete recordings of each edition must have a provisional mark turned firm.
 pub const LEAST_TURNED: u64 = 1_000;
 /// How many complete recordings of each edition must have a line above 16.
@@ -262,6 +321,7 @@ pub struct Counts {
     /// Hand-overs of 0 cars taken, by edition, then by kind.
     pub checks: [[u64; CHECKS]; EDITIONS.len()],
     pub gates: Gates,
+    pub remaining: Remaining,
     /// By edition: complete recordings, each of a list of its own, with a provisional mark turned firm.
     pub turned: [u64; EDITIONS.len()],
     /// By edition: complete recordings, each of a list of its own, with a recorded line above 16.
@@ -339,6 +399,28 @@ impl Counts {
         }
     }
 
+    /// Counts an accepted receipt.
+    pub fn receipt(&mut self, receipt: Receipt) {
+        let remaining = &mut self.remaining;
+        remaining.left[heading(receipt.edition)][receipt.left] += 1;
+        remaining.behind_requests += u64::from(receipt.request && receipt.left != 0);
+        remaining.requests += u64::from(receipt.leaves_request);
+    }
+
+    /// Counts an accepted reading by how many items its last receipt left, and how many are on the
+    /// line of that receipt in the end; there is no such line without a receipt.
+    pub fn reading(&mut self, left: u8, waiting: Option<u8>) {
+        let remaining = &mut self.remaining;
+        remaining.readings += u64::from(left != 0);
+        remaining.changed += u64::from(waiting.is_some_and(|waiting| waiting != left));
+        remaining.without += u64::from(waiting.is_none());
+    }
+
+    /// Counts a reading that a record made end, by how many items the last receipt before it left.
+    pub fn refused_reading(&mut self, left: usize) {
+        self.remaining.refused += u64::from(left != 0);
+    }
+
     /// Counts a complete recording with its total and that of its opening.
     pub fn complete(&mut self, edition: u32, turned: bool, above: bool, totals: (u32, u32)) {
         let place = heading(edition);
@@ -366,6 +448,12 @@ impl Counts {
                 }
             }
         }
+        for (heading, left) in HEADINGS.iter().zip(&self.remaining.left) {
+            for (number, &times) in left.iter().enumerate() {
+                let name = format!("receipts that leave {number}, {heading}");
+                floor(name, times, LEAST_REMAINING);
+            }
+        }
         for (name, times, least) in self.others() {
             floor(name, times, least);
         }
@@ -386,6 +474,7 @@ impl Counts {
             others.push((name, self.above[place], LEAST_ABOVE));
         }
         others.extend(self.gates.others());
+        others.extend(self.remaining.others());
         others
     }
 
@@ -402,6 +491,15 @@ impl Counts {
                     lines += &format!("  {:20} {}\n", call.0, cells.join(", "));
                 }
             }
+        }
+        for (heading, left) in HEADINGS.iter().zip(&self.remaining.left) {
+            let cells: Vec<String> = left
+                .iter()
+                .enumerate()
+                .map(|(number, times)| format!("{number}: {times}"))
+                .collect();
+            let cells = cells.join(", ");
+            lines += &format!("receipts by how many items they leave, {heading}: {cells}\n");
         }
         for (name, times, _) in self.others() {
             lines += &format!("{name}: {times}\n");

@@ -1,7 +1,7 @@
 //! What each call must answer: the second implementation's answer in the form of the plain structs.
 
 use crate::compare::Output;
-use crate::ffi::{self, PlainAnswer, PlainReading, PlainRun, PlainWritten};
+use crate::ffi::{self, PlainAnswer, PlainReading, PlainReceived, PlainRun, PlainWritten};
 use crate::header;
 use crate::plain;
 use second::generate::edition_of;
@@ -10,9 +10,10 @@ use second::random::Random;
 use second::site::{Call, Direction, Run};
 use second::{journal, recording};
 
-/// Narrows a refusal number.
-pub fn number(refusal: u32) -> u8 {
-    u8::try_from(refusal).expect("a refusal number fits 8 bits")
+/// Narrows a refusal number, or how many items remain.
+pub fn number(number: impl TryInto<u8>) -> u8 {
+    let narrowed = number.try_into().ok();
+    narrowed.expect("a number of an answer fits 8 bits")
 }
 
 fn zone(zone: u32) -> u8 {
@@ -22,7 +23,7 @@ fn zone(zone: u32) -> u8 {
 /// Makes a call on the proved code.
 pub fn proved(p: &PlainRun, call: Call) -> PlainAnswer {
     let mut run = *p;
-    let refusal = match call {
+    let PlainReceived { refusal, remaining } = match call {
         Call::HandOver { from, to, cars } => {
             ffi::cut_site_send(&mut run, zone(from), zone(to), cars)
         }
@@ -37,15 +38,23 @@ pub fn proved(p: &PlainRun, call: Call) -> PlainAnswer {
             Direction::Out => ffi::cut_site_leave(&mut run, zone(at), cars),
         },
     };
-    PlainAnswer { refusal, run }
+    PlainAnswer {
+        refusal,
+        remaining,
+        run,
+    }
 }
 
-/// Makes a call by the header's inline function.
+/// Makes a call by the header's inline function; that of a receipt alone tells how many items remain.
 pub fn by_header(p: &PlainRun, call: Call) -> PlainAnswer {
-    let mut run = *p;
+    let (mut run, mut remaining) = (*p, 0);
     let refusal = match call {
         Call::HandOver { from, to, cars } => header::send(&mut run, zone(from), zone(to), cars),
-        Call::Receipt { from, to } => header::receive(&mut run, zone(from), zone(to)),
+        Call::Receipt { from, to } => {
+            let received = header::receive(&mut run, zone(from), zone(to));
+            remaining = received.remaining;
+            received.refusal
+        }
         Call::Start { zone: starter } => header::start(&mut run, zone(starter)),
         Call::Gate {
             direction,
@@ -56,7 +65,11 @@ pub fn by_header(p: &PlainRun, call: Call) -> PlainAnswer {
             Direction::Out => header::leave(&mut run, zone(at), cars),
         },
     };
-    PlainAnswer { refusal, run }
+    PlainAnswer {
+        refusal,
+        remaining,
+        run,
+    }
 }
 
 /// The line that loses an item when a call is accepted.
@@ -71,14 +84,17 @@ fn popped(call: Call) -> Option<(usize, usize)> {
 pub fn answer(p: &PlainRun, call: Call) -> PlainAnswer {
     let refused = |refusal: u32| PlainAnswer {
         refusal: number(refusal),
+        remaining: 0,
         run: *p,
     };
     let Some(mut run) = plain::run_of(p) else {
         return refused(1);
     };
-    match run.call(call) {
+    let answer = run.answer(call);
+    match answer.refusal {
         0 => PlainAnswer {
             refusal: 0,
+            remaining: number(answer.remaining),
             run: plain::after(p, &run, popped(call)),
         },
         refusal => refused(refusal),
@@ -142,6 +158,7 @@ pub fn reading(reading: &journal::Reading) -> PlainReading {
     PlainReading {
         refusal: number(reading.refusal),
         position: reading.position,
+        remaining: number(reading.remaining),
         run: plain::plain_run(&reading.run),
     }
 }

@@ -78,6 +78,15 @@ pub struct PlainHead {
 pub struct PlainHeadAnswer {
     pub head: PlainHead,
     pub refusal: u8,
+    pub remaining: u8,
+}
+
+/// What `cut_receive` answers, and any call on a run beside the run.
+#[repr(C)]
+#[derive(Clone, Copy, Debug, PartialEq, Eq)]
+pub struct PlainReceived {
+    pub refusal: u8,
+    pub remaining: u8,
 }
 
 impl PlainRun {
@@ -91,14 +100,17 @@ impl PlainRun {
         }
     }
 
-    /// Stores what a call handed back beside the lent arrays, and gives the refusal.
-    fn store(&mut self, answer: PlainHeadAnswer) -> u8 {
+    /// Stores the head that a call handed back beside the lent arrays, and gives the rest.
+    fn store(&mut self, answer: PlainHeadAnswer) -> PlainReceived {
         self.count = answer.head.count;
         self.edition = answer.head.edition;
         self.records = answer.head.records;
         self.zones = answer.head.zones;
         self.opening = answer.head.opening;
-        answer.refusal
+        PlainReceived {
+            refusal: answer.refusal,
+            remaining: answer.remaining,
+        }
     }
 }
 
@@ -107,6 +119,7 @@ impl PlainRun {
 pub struct PlainAnswer {
     pub run: PlainRun,
     pub refusal: u8,
+    pub remaining: u8,
 }
 
 #[repr(C)]
@@ -115,6 +128,7 @@ pub struct PlainReading {
     pub run: PlainRun,
     pub position: usize,
     pub refusal: u8,
+    pub remaining: u8,
 }
 
 #[repr(C)]
@@ -134,6 +148,7 @@ const _: () = assert!(size_of::<PlainLocal>() == 10);
 const _: () = assert!(size_of::<PlainRun>() == 4_212);
 const _: () = assert!(size_of::<PlainHead>() == 100);
 const _: () = assert!(size_of::<PlainHeadAnswer>() == 102);
+const _: () = assert!(size_of::<PlainReceived>() == 2);
 const _: () = assert!(size_of::<PlainAnswer>() == 4_214);
 const _: () = assert!(size_of::<PlainReading>() == 4_232);
 const _: () = assert!(size_of::<PlainWritten>() == 24);
@@ -141,6 +156,9 @@ const _: () = assert!(offset_of!(PlainZone, mark) == 12);
 const _: () = assert!(offset_of!(PlainRun, edition) == 1);
 const _: () = assert!(offset_of!(PlainRun, items) == 100);
 const _: () = assert!(offset_of!(PlainRun, journal) == 2_212);
+const _: () = assert!(offset_of!(PlainHeadAnswer, remaining) == 101);
+const _: () = assert!(offset_of!(PlainAnswer, remaining) == 4_213);
+const _: () = assert!(offset_of!(PlainReading, remaining) == 4_225);
 const _: () = assert!(offset_of!(PlainWritten, total) == 4);
 const _: () = assert!(offset_of!(PlainWritten, position) == 8);
 const _: () = assert!(offset_of!(PlainWritten, written) == 16);
@@ -279,31 +297,31 @@ macro_rules! lent {
     };
 }
 
-pub fn cut_site_send(run: &mut PlainRun, from: u8, to: u8, cars: u8) -> u8 {
+pub fn cut_site_send(run: &mut PlainRun, from: u8, to: u8, cars: u8) -> PlainReceived {
     let (items, lens, journal) = lent!(run);
     let answer = unsafe { raw::cut_site_send(run.head(), items, lens, journal, from, to, cars) };
     run.store(answer)
 }
 
-pub fn cut_site_receive(run: &mut PlainRun, from: u8, to: u8) -> u8 {
+pub fn cut_site_receive(run: &mut PlainRun, from: u8, to: u8) -> PlainReceived {
     let (items, lens, journal) = lent!(run);
     let answer = unsafe { raw::cut_site_receive(run.head(), items, lens, journal, from, to) };
     run.store(answer)
 }
 
-pub fn cut_site_start(run: &mut PlainRun, zone: u8) -> u8 {
+pub fn cut_site_start(run: &mut PlainRun, zone: u8) -> PlainReceived {
     let (items, lens, journal) = lent!(run);
     let answer = unsafe { raw::cut_site_start(run.head(), items, lens, journal, zone) };
     run.store(answer)
 }
 
-pub fn cut_site_enter(run: &mut PlainRun, zone: u8, cars: u8) -> u8 {
+pub fn cut_site_enter(run: &mut PlainRun, zone: u8, cars: u8) -> PlainReceived {
     let (items, lens, journal) = lent!(run);
     let answer = unsafe { raw::cut_site_enter(run.head(), items, lens, journal, zone, cars) };
     run.store(answer)
 }
 
-pub fn cut_site_leave(run: &mut PlainRun, zone: u8, cars: u8) -> u8 {
+pub fn cut_site_leave(run: &mut PlainRun, zone: u8, cars: u8) -> PlainReceived {
     let (items, lens, journal) = lent!(run);
     let answer = unsafe { raw::cut_site_leave(run.head(), items, lens, journal, zone, cars) };
     run.store(answer)

@@ -12,7 +12,7 @@ uint8_t header_send(cut_run *run, uint8_t from, uint8_t to, uint8_t cars)
     return cut_send(run, from, to, cars);
 }
 
-uint8_t header_receive(cut_run *run, uint8_t from, uint8_t to)
+cut_received header_receive(cut_run *run, uint8_t from, uint8_t to)
 {
     return cut_receive(run, from, to);
 }
@@ -98,17 +98,22 @@ static uint64_t add_run(uint64_t sum, const cut_run *run)
 
 uint64_t header_answer_sum(const cut_answer *answer)
 {
-    return add_run(add(0, answer->refusal), &answer->run);
+    return add_run(add(add(0, answer->refusal), answer->remaining), &answer->run);
 }
 
 uint64_t header_head_answer_sum(const cut_head_answer *answer)
 {
-    return add_head(add(0, answer->refusal), &answer->head);
+    return add_head(add(add(0, answer->refusal), answer->remaining), &answer->head);
+}
+
+uint64_t header_received_sum(const cut_received *received)
+{
+    return add(add(0, received->refusal), received->remaining);
 }
 
 uint64_t header_reading_sum(const cut_reading *reading)
 {
-    return add_run(add(add(0, reading->refusal), reading->position), &reading->run);
+    return add_run(add(add(add(0, reading->refusal), reading->remaining), reading->position), &reading->run);
 }
 
 uint64_t header_written_sum(const cut_written *written)

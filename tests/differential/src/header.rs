@@ -2,7 +2,8 @@
 //! the library and back, and sums over the fields of the structs by the names that C has.
 
 use crate::ffi::{
-    PlainAnswer, PlainHeadAnswer, PlainOpening, PlainReading, PlainRun, PlainStep, PlainWritten,
+    PlainAnswer, PlainHeadAnswer, PlainOpening, PlainReading, PlainReceived, PlainRun, PlainStep,
+    PlainWritten,
 };
 
 mod raw {
@@ -17,7 +18,7 @@ mod raw {
             n: usize,
         ) -> u8;
         pub fn header_send(run: *mut PlainRun, from: u8, to: u8, cars: u8) -> u8;
-        pub fn header_receive(run: *mut PlainRun, from: u8, to: u8) -> u8;
+        pub fn header_receive(run: *mut PlainRun, from: u8, to: u8) -> PlainReceived;
         pub fn header_start(run: *mut PlainRun, zone: u8) -> u8;
         pub fn header_enter(run: *mut PlainRun, zone: u8, cars: u8) -> u8;
         pub fn header_leave(run: *mut PlainRun, zone: u8, cars: u8) -> u8;
@@ -27,6 +28,7 @@ mod raw {
         pub fn header_step_sum(step: *const PlainStep) -> u64;
         pub fn header_answer_sum(answer: *const PlainAnswer) -> u64;
         pub fn header_head_answer_sum(answer: *const PlainHeadAnswer) -> u64;
+        pub fn header_received_sum(received: *const PlainReceived) -> u64;
         pub fn header_reading_sum(reading: *const PlainReading) -> u64;
         pub fn header_written_sum(written: *const PlainWritten) -> u64;
     }
@@ -42,7 +44,7 @@ pub fn send(run: &mut PlainRun, from: u8, to: u8, cars: u8) -> u8 {
     unsafe { raw::header_send(run, from, to, cars) }
 }
 
-pub fn receive(run: &mut PlainRun, from: u8, to: u8) -> u8 {
+pub fn receive(run: &mut PlainRun, from: u8, to: u8) -> PlainReceived {
     unsafe { raw::header_receive(run, from, to) }
 }
 
@@ -86,6 +88,7 @@ summed! {
     PlainStep => header_step_sum,
     PlainAnswer => header_answer_sum,
     PlainHeadAnswer => header_head_answer_sum,
+    PlainReceived => header_received_sum,
     PlainReading => header_reading_sum,
     PlainWritten => header_written_sum,
 }

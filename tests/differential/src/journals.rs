@@ -36,11 +36,10 @@ fn check(counts: &mut Counts, random: &mut Random, bytes: &[u8]) -> Result<(), F
 
 fn read(counts: &mut Counts, random: &mut Random, bytes: &[u8]) -> Result<(), Found> {
     let (edition, reading) = (expect::edition(bytes), journal::read(bytes));
-    let proved = ffi::cut_journal_read(bytes);
-    let expected = expect::reading(&reading);
-    counts.same(Entry::JournalRead, edition, &expected, &proved)?;
-    if let Some(word) = refused_record(bytes, &reading) {
+    let proved = pair::read(counts, edition, bytes, &expect::reading(&reading))?;
+    if let Some((word, before)) = refused_record(bytes, &reading) {
         counts.gate_record(edition, word, reading.refusal);
+        counts.refused_reading(journal::read(&before).remaining);
     }
     let recording = expect::recorded(&reading);
     for lent in recording.lents(random) {
@@ -61,13 +60,16 @@ fn read(counts: &mut Counts, random: &mut Random, bytes: &[u8]) -> Result<(), Fo
     Ok(())
 }
 
-/// The record that made a reading end, with 18 or 19.
-fn refused_record(bytes: &[u8], reading: &Reading) -> Option<u16> {
+/// The record that made a reading end, with 18 or 19, and the journal of those before it.
+fn refused_record(bytes: &[u8], reading: &Reading) -> Option<(u16, Vec<u8>)> {
     if !matches!(reading.refusal, 18 | 19) {
         return None;
     }
     let (first, _) = records(bytes)?;
-    words_of(&bytes[first..]).get(reading.position).copied()
+    let (before, rest) = bytes.split_at(first + 2 * reading.position);
+    let mut before = before.to_vec();
+    set_number(&mut before, reading.position);
+    Some((*words_of(rest).first()?, before))
 }
 
 /// The journal with one record more, of a gate in any direction, that any byte may be wrong in. Nothing

@@ -1,7 +1,7 @@
 //! One run kept by both implementations, compared after every call.
 
 use crate::compare::{one, Difference};
-use crate::count::{Check, Counts, Entry, Failure, Found, Gate};
+use crate::count::{Check, Counts, Entry, Failure, Found, Gate, Receipt};
 use crate::expect::{self, Made};
 use crate::ffi::{self, PlainAnswer, PlainReading, PlainRun};
 use crate::header;
@@ -11,7 +11,7 @@ use second::demand3::{self, Lines, Seen};
 use second::edition::fewest;
 use second::journal::decode;
 use second::random::{finish, Random};
-use second::site::{sum, Call, Direction, Item, Run};
+use second::site::{sum, Answer, Call, Direction, Item, Run, PLACES};
 use second::zone::{Body, Mark};
 
 pub struct Pair<'a> {
@@ -21,6 +21,8 @@ pub struct Pair<'a> {
     plain: PlainRun,
     opening: Vec<u16>,
     calls: Vec<(Call, u32)>,
+    /// How many items remained at the last receipt.
+    remaining: u8,
     /// Whether a provisional mark has turned firm.
     turned: bool,
     counts: &'a mut Counts,
@@ -40,6 +42,7 @@ pub fn open(
     let (refusal, run) = Run::open(named, u32::from(count), stocks);
     let expected = PlainAnswer {
         refusal: expect::number(refusal),
+        remaining: 0,
         run: plain::plain_run(&run),
     };
     let proved = ffi::cut_site_open(edition, count, stocks);
@@ -47,7 +50,12 @@ pub fn open(
     let compared = compared.and_then(|()| {
         let mut run = plain::ZEROS;
         let refusal = header::open(&mut run, edition, count, stocks);
-        opened_by_header(counts, &expected, PlainAnswer { refusal, run })
+        let by_header = PlainAnswer {
+            refusal,
+            remaining: 0,
+            run,
+        };
+        opened_by_header(counts, &expected, by_header)
     });
     let call = || format!("cut_site_open({edition}, {count}, {stocks:?})");
     compared.map_err(|found| Failure::new(String::new(), call(), found))?;
@@ -114,6 +122,46 @@ fn count_gate(counts: &mut Counts, p: &PlainRun, made: Call, refusal: u8) {
     }
 }
 
+/// Counts what an accepted receipt on a struct took and left.
+fn count_receipt(counts: &mut Counts, p: &PlainRun, made: Call, answer: &PlainAnswer) {
+    let Call::Receipt { from, to } = made else {
+        return;
+    };
+    if answer.refusal == 0 {
+        let first = PLACES * plain::place(from as usize - 1, to as usize - 1);
+        let left = &answer.run.items[first..first + usize::from(answer.remaining)];
+        counts.receipt(Receipt {
+            edition: u32::from(p.edition),
+            request: is_request(p.items[first]),
+            left: left.len(),
+            leaves_request: left.iter().any(|&word| is_request(word)),
+        });
+    }
+}
+
+fn is_request(word: u16) -> bool {
+    word >= 512
+}
+
+/// Compares the reading of a journal, and counts it by how many items remained at its last receipt.
+pub fn read(
+    counts: &mut Counts,
+    edition: u32,
+    bytes: &[u8],
+    expected: &PlainReading,
+) -> Result<PlainReading, Found> {
+    let proved = ffi::cut_journal_read(bytes);
+    counts.same(Entry::JournalRead, edition, expected, &proved)?;
+    if proved.refusal == 0 {
+        let run = &proved.run;
+        let mut records = run.journal[..usize::from(run.records)].iter();
+        let receipt = records.rfind(|&&word| word >> 14 == 1);
+        let waiting = receipt.map(|word| run.lens[usize::from(word >> 8 & 63)]);
+        counts.reading(proved.remaining, waiting);
+    }
+    Ok(proved)
+}
+
 /// Compares a call on one struct and gives the proved code's answer.
 pub fn call(
     counts: &mut Counts,
@@ -125,6 +173,7 @@ pub fn call(
     counts.same(entry(call), u32::from(p.edition), expected, &proved)?;
     counts.equal(entry(call), expected, &expect::by_header(p, call))?;
     count_gate(counts, p, call, proved.refusal);
+    count_receipt(counts, p, call, &proved);
     Ok(proved)
 }
 
@@ -168,6 +217,7 @@ impl<'a> Pair<'a> {
             plain,
             opening: stocks.to_vec(),
             calls: Vec::new(),
+            remaining: 0,
             turned: false,
             counts,
             random: Random::new(u64::from(random.within(0, u32::MAX))),
@@ -185,15 +235,19 @@ impl<'a> Pair<'a> {
     pub fn call(&mut self, made: Call) -> Result<u32, Failure> {
         let before = self.run.zones;
         let check = self.check(made);
-        let refusal = self.run.call(made);
+        let Answer { refusal, remaining } = self.run.answer(made);
         let expected = PlainAnswer {
             refusal: expect::number(refusal),
+            remaining: expect::number(remaining),
             run: plain::plain_run(&self.run),
         };
         let proved = call(self.counts, &self.plain, made, &expected);
         let proved = proved.map_err(|found| self.failure(text::call(made), found))?;
         self.plain = proved.run;
         self.calls.push((made, refusal));
+        if refusal == 0 && matches!(made, Call::Receipt { .. }) {
+            self.remaining = expected.remaining;
+        }
         self.turned |= turned(&before, &self.run.zones);
         if let Some(check) = check.filter(|_| refusal == 0) {
             self.counts.check(check);
@@ -290,12 +344,11 @@ impl<'a> Pair<'a> {
         let expected = PlainReading {
             refusal: 0,
             position: 0,
+            remaining: self.remaining,
             run: self.plain,
         };
-        let proved = ffi::cut_journal_read(&bytes);
         let edition = self.run.edition;
-        self.counts
-            .same(Entry::JournalRead, edition, &expected, &proved)?;
+        read(self.counts, edition, &bytes, &expected)?;
         for lent in recording.lents(random) {
             let expected = recording.output(&lent);
             let proved = expect::written(&lent, |out| ffi::cut_journal_record(&bytes, out));
@@ -354,7 +407,7 @@ fn lines(p: &PlainRun, zones: usize) -> Lines {
         let first = 16 * plain::place(a, b);
         let length = usize::from(p.lens[plain::place(a, b)]);
         let words = &p.items[first..first + length];
-        let hand_overs = words.iter().filter(|&&word| word < 512);
+        let hand_overs = words.iter().filter(|&&word| !is_request(word));
         hand_overs.map(|&word| (word % 256) as u8).collect()
     };
     (0..zones)

@@ -2,16 +2,17 @@
 
 use differential::compare::{Answer, Output};
 use differential::count::{
-    Check, Counts, Entry, Gate, Gates, CHECKS, ENTRIES, GATES, HEADINGS, LEAST_ABOVE,
-    LEAST_ANSWERS, LEAST_CHECKS, LEAST_GATES, LEAST_TURNED, WRONG_WAYS,
+    Check, Counts, Entry, Gate, Gates, Remaining, CHECKS, ENTRIES, GATES, HEADINGS, LEAST_ABOVE,
+    LEAST_ANSWERS, LEAST_CHECKS, LEAST_GATES, LEAST_REMAINING, LEAST_TURNED, WRONG_WAYS,
 };
 use differential::expect::{self, Made};
 use differential::ffi::{self, PlainAnswer, PlainReading, PlainRun, PlainStep};
 use differential::pair;
 use differential::plain::place;
 use second::edition::EDITIONS;
-use second::generate::{bytes_of, case_b};
-use second::site::{Call, Direction};
+use second::generate::{bytes_of, case_b, with_edition, WAITING, WAITING_REFUSED};
+use second::journal;
+use second::site::{Call, Direction, PLACES};
 
 const SEND: Call = Call::HandOver {
     from: 1,
@@ -93,6 +94,7 @@ fn a_wrong_answer_of_the_reader_is_found() {
     assert_eq!((right.refusal, right.position), (18, 0));
     assert_eq!(field(&right, |reading| reading.position = 1), "position");
     assert_eq!(field(&right, |reading| reading.refusal = 19), "refusal");
+    assert_eq!(field(&right, |reading| reading.remaining = 1), "remaining");
     let changed = field(&right, |reading| reading.run.zones[1].stock = 1);
     assert_eq!(changed, "run.zones[1].stock");
 }
@@ -151,7 +153,7 @@ fn a_wrong_answer_of_a_zone_is_found() {
 /// A run of edition 3 with 65,500 cars in stocks and 30 on a line, as the proved code makes it.
 fn brimming() -> PlainRun {
     let mut run = ffi::cut_site_open(3, 2, &[65_530, 0]).run;
-    assert_eq!(ffi::cut_site_send(&mut run, 1, 2, 30), 0);
+    assert_eq!(ffi::cut_site_send(&mut run, 1, 2, 30).refusal, 0);
     run
 }
 
@@ -262,12 +264,112 @@ fn a_call_against_a_wrong_expectation_fails() {
     assert_eq!(counts.times[1][Entry::SiteSend as usize][0], 1);
 }
 
+/// A run of edition 1 in which a request and two hand-overs stand on the line from 1 to 2, in this order,
+/// as the proved code makes it.
+fn waiting() -> PlainRun {
+    let mut run = ffi::cut_site_open(1, 2, &[9, 9]).run;
+    assert_eq!(ffi::cut_site_send(&mut run, 2, 1, 1).refusal, 0);
+    assert_eq!(ffi::cut_site_receive(&mut run, 2, 1).refusal, 0);
+    assert_eq!(ffi::cut_site_start(&mut run, 1).refusal, 0);
+    for cars in [3, 4] {
+        assert_eq!(ffi::cut_site_send(&mut run, 1, 2, cars).refusal, 0);
+    }
+    run
+}
+
+const RECEIPT: Call = Call::Receipt { from: 1, to: 2 };
+
+/// Another number of items that remain fails the whole comparison: of an accepted receipt, of a refused
+/// one and of a call that is no receipt.
+#[test]
+fn a_wrong_number_of_items_that_remain_is_found() {
+    let mut counts = Counts::default();
+    let (run, empty) = (waiting(), opened());
+    for (run, call, refusal, remaining) in [
+        (&run, RECEIPT, 0, 2),
+        (&empty, RECEIPT, 9, 0),
+        (&empty, SEND, 0, 0),
+    ] {
+        let expected = expect::answer(run, call);
+        assert_eq!((expected.refusal, expected.remaining), (refusal, remaining));
+        assert!(pair::call(&mut counts, run, call, &expected).is_ok());
+        for other in [remaining + 1, remaining.wrapping_sub(1)] {
+            let mut wrong = expected;
+            wrong.remaining = other;
+            let found = pair::call(&mut counts, run, call, &wrong).expect_err("another number");
+            assert_eq!(found.difference.field, "remaining");
+        }
+    }
+    let right = ffi::cut_site_open(1, 2, &[9, 9]);
+    assert_eq!(field(&right, |answer| answer.remaining = 1), "remaining");
+}
+
+/// What is counted of accepted receipts: how many items they leave, and which.
+#[test]
+fn receipts_are_counted() {
+    let mut counts = Counts::default();
+    let mut run = waiting();
+    let mut made = || {
+        let expected = expect::answer(&run, RECEIPT);
+        run = pair::call(&mut counts, &run, RECEIPT, &expected)
+            .expect("both agree")
+            .run;
+        counts.remaining.clone()
+    };
+    let first = made();
+    assert_eq!(
+        (first.left[0][2], first.behind_requests, first.requests),
+        (1, 1, 0)
+    );
+    let second = made();
+    assert_eq!((second.left[0][1], second.behind_requests), (1, 1));
+    // The third empties the line, and a fourth is refused.
+    assert_eq!((made().left[0][0], made().left[0][0]), (1, 1));
+    // A hand-over with a request behind it.
+    let mut run = waiting();
+    run.items.swap(16, 17);
+    let expected = expect::answer(&run, RECEIPT);
+    assert!(pair::call(&mut counts, &run, RECEIPT, &expected).is_ok());
+    let remaining = &counts.remaining;
+    assert_eq!((remaining.left[0][2], remaining.behind_requests), (2, 1));
+    assert_eq!(remaining.requests, 1);
+}
+
+/// What is counted of readings: the worked journals, which the proved code reads as they say.
+#[test]
+fn readings_are_counted() {
+    let mut counts = Counts::default();
+    for edition in EDITIONS {
+        for (journal, remaining) in WAITING {
+            let bytes = with_edition(edition, journal);
+            let expected = expect::reading(&journal::read(&bytes));
+            let proved = pair::read(&mut counts, edition, &bytes, &expected).expect("both agree");
+            assert_eq!(usize::from(proved.remaining), remaining);
+        }
+        let refused = ffi::cut_journal_read(&with_edition(edition, &WAITING_REFUSED));
+        assert_eq!((refused.refusal, refused.position), (18, 3));
+        assert_eq!(refused.remaining, 0);
+    }
+    let mut expected = Remaining {
+        readings: 9,
+        changed: 3,
+        ..Remaining::default()
+    };
+    assert_eq!(counts.remaining, expected);
+    counts.reading(0, None);
+    counts.refused_reading(0);
+    counts.refused_reading(1);
+    (expected.without, expected.refused) = (1, 1);
+    assert_eq!(counts.remaining, expected);
+}
+
 /// A number that a call cannot give is a failure even where both give it.
 #[test]
 fn a_number_outside_the_list_of_a_call_is_found() {
     let mut counts = Counts::default();
     let answer = PlainAnswer {
         refusal: 20,
+        remaining: 0,
         run: opened(),
     };
     let found = counts.same(Entry::SiteReceive, 2, &answer, &answer);
@@ -278,6 +380,7 @@ fn a_number_outside_the_list_of_a_call_is_found() {
     // Without a known edition a call gives 1 alone.
     let answer = PlainAnswer {
         refusal: 5,
+        remaining: 0,
         run: opened(),
     };
     assert!(counts.same(Entry::SiteReceive, 2, &answer, &answer).is_ok());
@@ -291,15 +394,9 @@ fn a_number_outside_the_list_of_a_call_is_found() {
     assert!(counts.same(Entry::SiteEnter, 2, &answer, &answer).is_err());
 }
 
-#[test]
-fn a_missed_floor_is_reported() {
-    let numbers = ENTRIES.iter().flat_map(|(_, numbers)| numbers);
-    let numbers: usize = numbers.map(|numbers| numbers.len()).sum();
-    let editions = EDITIONS.len();
-    let gates = GATES + 1 + editions + WRONG_WAYS.len() + 1 + 2;
-    let missed = Counts::default().missed().len();
-    assert_eq!(missed, numbers + editions * (CHECKS + 2) + gates);
-    let enough = Counts {
+/// Counts that just reach every floor.
+fn enough() -> Counts {
+    Counts {
         times: [[[LEAST_ANSWERS; 22]; ENTRIES.len()]; HEADINGS.len()],
         checks: [[LEAST_CHECKS; CHECKS]; 3],
         gates: Gates {
@@ -311,18 +408,47 @@ fn a_missed_floor_is_reported() {
             other_totals: LEAST_GATES,
             high_totals: LEAST_GATES,
         },
+        remaining: Remaining {
+            left: [[LEAST_REMAINING; PLACES]; 3],
+            behind_requests: LEAST_REMAINING,
+            requests: LEAST_REMAINING,
+            readings: LEAST_REMAINING,
+            changed: LEAST_REMAINING,
+            without: LEAST_REMAINING,
+            refused: LEAST_REMAINING,
+        },
         turned: [LEAST_TURNED; 3],
         above: [LEAST_ABOVE; 3],
         comparisons: 0,
-    };
-    assert_eq!(enough.missed(), Vec::<String>::new());
-    let missed = |change: fn(&mut Counts)| {
-        let mut counts = enough.clone();
-        change(&mut counts);
-        let missed = counts.missed();
-        assert_eq!(missed.len(), 1);
-        missed[0].clone()
-    };
+    }
+}
+
+#[test]
+fn the_floors_are_those_of_all_that_is_counted() {
+    let numbers = ENTRIES.iter().flat_map(|(_, numbers)| numbers);
+    let numbers: usize = numbers.map(|numbers| numbers.len()).sum();
+    let editions = EDITIONS.len();
+    let gates = GATES + 1 + editions + WRONG_WAYS.len() + 1 + 2;
+    let remaining = editions * PLACES + 6;
+    let missed = Counts::default().missed().len();
+    assert_eq!(
+        missed,
+        numbers + editions * (CHECKS + 2) + gates + remaining
+    );
+    assert_eq!(enough().missed(), Vec::<String>::new());
+}
+
+/// The one floor that is missed when counts that reach them all are changed.
+fn missed(change: fn(&mut Counts)) -> String {
+    let mut counts = enough();
+    change(&mut counts);
+    let missed = counts.missed();
+    assert_eq!(missed.len(), 1);
+    missed[0].clone()
+}
+
+#[test]
+fn a_missed_floor_is_reported() {
     let start = missed(|counts| counts.times[0][Entry::SiteStart as usize][10] -= 1);
     assert!(start.contains("cut_site_start answering 10, edition 1: 99 times"));
     let open = missed(|counts| counts.times[3][Entry::ZoneOpen as usize][15] -= 1);
@@ -346,6 +472,26 @@ fn a_missed_floor_is_reported() {
     assert!(missed(|counts| counts.above[0] -= 1).contains("above 16, edition 1: 99 times"));
     let check = missed(|counts| counts.checks[1][6] -= 1);
     assert!(check.contains("bit 1 taken by an unmarked zone, zone part, edition 2: 99 times"));
+}
+
+#[test]
+fn a_missed_floor_of_items_that_remain_is_reported() {
+    let left = missed(|counts| counts.remaining.left[0][0] -= 1);
+    assert!(left.contains("receipts that leave 0, edition 1: 99 times"));
+    let left = missed(|counts| counts.remaining.left[2][15] -= 1);
+    assert!(left.contains("receipts that leave 15, edition 3: 99 times"));
+    let behind = missed(|counts| counts.remaining.behind_requests -= 1);
+    assert!(behind.contains("receipts of a request with items behind it: 99 times"));
+    let request = missed(|counts| counts.remaining.requests -= 1);
+    assert!(request.contains("receipts that leave a request on the line: 99 times"));
+    let reading = missed(|counts| counts.remaining.readings -= 1);
+    assert!(reading.contains("readings whose last receipt left items: 99 times"));
+    let changed = missed(|counts| counts.remaining.changed -= 1);
+    assert!(changed.contains("left another number than waits in the end: 99 times"));
+    let without = missed(|counts| counts.remaining.without -= 1);
+    assert!(without.contains("readings without a receipt: 99 times"));
+    let refused = missed(|counts| counts.remaining.refused -= 1);
+    assert!(refused.contains("refused behind a receipt that left items: 99 times"));
 }
 
 /// A hand-over of 0 cars is counted by its edition, its bit and the part and mark of its receiver.

@@ -1,8 +1,8 @@
 //! The C headers name the same fields as the structs that the proved code is called with.
 
 use differential::ffi::{
-    self, PlainAnswer, PlainHeadAnswer, PlainOpening, PlainReading, PlainRun, PlainSaved,
-    PlainStep, PlainWritten, PlainZone,
+    self, PlainAnswer, PlainHeadAnswer, PlainOpening, PlainReading, PlainReceived, PlainRun,
+    PlainSaved, PlainStep, PlainWritten, PlainZone,
 };
 use differential::header::Summed;
 use differential::plain::ZEROS;
@@ -112,20 +112,38 @@ fn the_zone_part_has_the_same_fields() {
 fn the_site_has_the_same_fields() {
     let random = &mut Random::new(2);
     for _ in 0..200 {
-        let (run, refusal) = (run(random), byte(random));
-        let answer = PlainAnswer { refusal, run };
-        assert_eq!(answer.sum(), add_run(add(0, refusal), &run));
-        let head = run.head();
-        let answer = PlainHeadAnswer { refusal, head };
-        assert_eq!(answer.sum(), add_head(add(0, refusal), &run));
+        let (run, refusal, remaining) = (run(random), byte(random), byte(random));
+        let first = add(add(0, refusal), remaining);
+        let received = PlainReceived { refusal, remaining };
+        assert_eq!(received.sum(), first);
+        let answer = PlainAnswer {
+            refusal,
+            remaining,
+            run,
+        };
+        assert_eq!(answer.sum(), add_run(first, &run));
+        let answer = PlainHeadAnswer {
+            refusal,
+            remaining,
+            head: run.head(),
+        };
+        assert_eq!(answer.sum(), add_head(first, &run));
         let position = usize::from(word(random));
         let reading = PlainReading {
             refusal,
+            remaining,
             position,
             run,
         };
-        let sum = add(add(0, refusal), position as u64);
-        assert_eq!(reading.sum(), add_run(sum, &run));
+        assert_eq!(reading.sum(), add_run(add(first, position as u64), &run));
+    }
+}
+
+#[test]
+fn what_writing_answers_has_the_same_fields() {
+    let random = &mut Random::new(3);
+    for _ in 0..200 {
+        let (refusal, position) = (byte(random), usize::from(word(random)));
         let written = usize::from(word(random));
         let total = u32::from(word(random)) << 16 | u32::from(word(random));
         let answer = PlainWritten {

@@ -64,6 +64,30 @@ pub const GATES_REFUSED: [(&[u8], u32, usize); 8] = [
     (&[0x44, 1, 0, 5, 0, 7, 0xD0, 0], 18, 0),
 ];
 
+/// The worked journals for how many items remain, without their editions, each with the number of its
+/// last receipt.
+pub const WAITING: [(&[u8], usize); 3] = [
+    // One of three hand-overs is taken.
+    (&[4, 4, 0, 9, 0, 9, 0x01, 1, 0x01, 2, 0x01, 3, 0x41, 0], 2),
+    // One remains at the receipt, and one more comes behind it.
+    (
+        &[
+            4, 5, 0, 9, 0, 9, 0x01, 1, 0x01, 2, 0x41, 0, 0x01, 3, 0x08, 1,
+        ],
+        1,
+    ),
+    // A request remains.
+    (
+        &[
+            4, 5, 0, 9, 0, 9, 0x08, 1, 0x48, 0, 0x01, 1, 0x80, 0, 0x41, 0,
+        ],
+        1,
+    ),
+];
+
+/// One that is refused with 18 at position 3, behind a receipt that left an item.
+pub const WAITING_REFUSED: [u8; 14] = [4, 4, 0, 9, 0, 9, 0x01, 1, 0x01, 1, 0x41, 0, 0x41, 1];
+
 /// A journal with this edition in its header.
 pub fn with_edition(edition: u32, journal: &[u8]) -> Vec<u8> {
     let mut bytes = journal.to_vec();

@@ -9,7 +9,7 @@ use crate::proved::{self, Numbers, Told};
 use second::generate::{self, accepted, journal_of, SHAPES};
 use second::random::{any_edition, direction, drive, edition, stocks, Random};
 use second::site::{Call, Direction};
-use speed::site::{self, Local, Run, Written, MOST_RECORDS, PLACES, RECORDING_BYTES};
+use speed::site::{self, Local, Received, Run, Written, MOST_RECORDS, PLACES, RECORDING_BYTES};
 use speed::zone::{Answer, Saved, Zone};
 use std::array::from_fn;
 use std::fmt::Debug;
@@ -18,8 +18,9 @@ use std::time::{Duration, Instant};
 /// A difference, as text.
 type Outcome<T> = Result<T, String>;
 
-/// The calls with the numbers that they answer.
-const CALLS: [(&str, &[u8]); 17] = [
+/// The calls with the numbers that they answer: the refusals, and behind them how many items remain after
+/// an accepted receipt and at the last one of an accepted reading, where more are met seldom.
+const CALLS: [(&str, &[u8]); 19] = [
     ("open", &[0, 2, 3, 4, 15]),
     ("send", &[0, 1, 5, 6, 7, 8]),
     ("receive", &[0, 1, 5, 6, 9, 10]),
@@ -37,6 +38,11 @@ const CALLS: [(&str, &[u8]); 17] = [
     ("zone-start", &[0, 1, 11]),
     ("zone-enter", &[0, 1, 6, 15, 20]),
     ("zone-leave", &[0, 1, 6, 7, 15]),
+    (
+        "receive leaves",
+        &[0, 1, 2, 3, 4, 5, 6, 7, 8, 9, 10, 11, 12, 13, 14, 15],
+    ),
+    ("read leaves", &[0, 1, 2]),
 ];
 
 /// The texts of two answers from shortly before the first difference on.
@@ -52,7 +58,11 @@ fn apart<A: Debug>(proved: &A, peer: &A) -> String {
 const LEAST: u64 = 20;
 
 #[derive(Default)]
-struct Counts([[u64; 22]; CALLS.len()]);
+struct Counts {
+    /// By call, then by number.
+    times: [[u64; 22]; CALLS.len()],
+    comparisons: u64,
+}
 
 impl Counts {
     /// Compares what both answer, and counts the number.
@@ -66,21 +76,23 @@ impl Counts {
         if proved != peer {
             return Err(format!("{name}: {}", apart(proved, peer)));
         }
-        let place = CALLS.iter().position(|call| call.0 == name);
-        let times = place.map(|place| &mut self.0[place]);
-        let count = times.and_then(|times| times.get_mut(usize::from(refusal)));
-        *count.ok_or(format!("{name} answers {refusal}"))? += 1;
-        Ok(())
+        self.comparisons += 1;
+        self.count(name, refusal)
     }
 
-    fn comparisons(&self) -> u64 {
-        self.0.iter().flatten().sum()
+    /// Counts a number of a call.
+    fn count(&mut self, name: &str, number: u8) -> Outcome<()> {
+        let place = CALLS.iter().position(|call| call.0 == name);
+        let times = place.map(|place| &mut self.times[place]);
+        let count = times.and_then(|times| times.get_mut(usize::from(number)));
+        *count.ok_or(format!("{name} answers {number}"))? += 1;
+        Ok(())
     }
 
     /// The numbers that were met too seldom.
     fn missed(&self) -> Vec<String> {
         let mut missed = Vec::new();
-        for (times, (name, numbers)) in self.0.iter().zip(CALLS) {
+        for (times, (name, numbers)) in self.times.iter().zip(CALLS) {
             for &number in numbers {
                 let met = times[usize::from(number)];
                 if met < LEAST {
@@ -123,7 +135,7 @@ pub fn all(seconds: u64) {
             println!("speed: round {seed}, met too seldom: {}", missed.join("; "));
             std::process::exit(1);
         }
-        comparisons += counts.comparisons();
+        comparisons += counts.comparisons;
         if start.elapsed() >= Duration::from_secs(seconds) {
             break;
         }
@@ -293,22 +305,22 @@ fn narrow(zone: u32) -> u8 {
     (zone % 256) as u8
 }
 
-/// Makes a call on a copy of a run and gives the proved code's next run.
-fn call(counts: &mut Counts, run: &Run, call: Call) -> Outcome<(u8, Run)> {
-    let (mut theirs, mut mine) = (*run, *run);
+/// Makes a call by the proved code and by the peer, each on a run of its own, and gives its name and both
+/// answers. No call but a receipt has items that remain.
+fn made(theirs: &mut Run, mine: &mut Run, call: Call) -> (&'static str, Received, Received) {
     let (name, refusal, answer) = match call {
         Call::HandOver { from, to, cars } => {
             let (from, to) = (narrow(from), narrow(to));
-            let refusal = proved::send(&mut theirs, from, to, cars);
+            let refusal = proved::send(theirs, from, to, cars);
             ("send", refusal, mine.send(from, to, cars))
         }
         Call::Receipt { from, to } => {
             let (from, to) = (narrow(from), narrow(to));
-            let refusal = proved::receive(&mut theirs, from, to);
-            ("receive", refusal, mine.receive(from, to))
+            let received = proved::receive(theirs, from, to);
+            return ("receive", received, mine.receive(from, to));
         }
         Call::Start { zone } => {
-            let refusal = proved::start(&mut theirs, narrow(zone));
+            let refusal = proved::start(theirs, narrow(zone));
             ("start", refusal, mine.start(narrow(zone)))
         }
         Call::Gate {
@@ -317,26 +329,45 @@ fn call(counts: &mut Counts, run: &Run, call: Call) -> Outcome<(u8, Run)> {
             cars,
         } => match direction {
             Direction::In => {
-                let refusal = proved::enter(&mut theirs, narrow(zone), cars);
+                let refusal = proved::enter(theirs, narrow(zone), cars);
                 ("enter", refusal, mine.enter(narrow(zone), cars))
             }
             Direction::Out => {
-                let refusal = proved::leave(&mut theirs, narrow(zone), cars);
+                let refusal = proved::leave(theirs, narrow(zone), cars);
                 ("leave", refusal, mine.leave(narrow(zone), cars))
             }
         },
     };
-    if (refusal != 0 && theirs != *run) || (answer != 0 && mine != *run) {
+    (name, without(refusal), without(answer))
+}
+
+/// The answer of a call after which nothing remains.
+fn without(refusal: u8) -> Received {
+    Received {
+        refusal,
+        remaining: 0,
+    }
+}
+
+/// Makes a call on a copy of a run and gives the proved code's next run.
+fn call(counts: &mut Counts, run: &Run, call: Call) -> Outcome<(u8, Run)> {
+    let (mut theirs, mut mine) = (*run, *run);
+    let (name, told, answer) = made(&mut theirs, &mut mine, call);
+    let refusal = told.refusal;
+    if (refusal != 0 && theirs != *run) || (answer.refusal != 0 && mine != *run) {
         return Err(format!("{name}: a refused call changes the run"));
     }
     if strays(run) {
-        counts.same(name, refusal, &refusal, &1)?;
+        counts.same(name, refusal, &told, &without(1))?;
     } else {
         let both = (
-            (refusal, agreed(theirs, refusal)),
-            (answer, agreed(mine, answer)),
+            (told, agreed(theirs, refusal)),
+            (answer, agreed(mine, answer.refusal)),
         );
         counts.same(name, refusal, &both.0, &both.1)?;
+        if refusal == 0 && matches!(call, Call::Receipt { .. }) {
+            counts.count("receive leaves", told.remaining)?;
+        }
     }
     Ok((refusal, theirs))
 }
@@ -682,6 +713,9 @@ fn journals(counts: &mut Counts, random: &mut Random, index: usize) -> Outcome<(
         let theirs = (answer, theirs);
         let mine = (mine.read(&bytes), mine);
         counts.same("read", answer.refusal, &theirs, &mine)?;
+        if answer.refusal == 0 {
+            counts.count("read leaves", answer.remaining)?;
+        }
         let theirs = |out: &mut [u8], n: &mut Numbers| proved::read_record(&bytes, out, n);
         let mine = |out: &mut [u8]| site::read_record(&bytes, out);
         write(counts, random, "read-record", true, theirs, mine)?;

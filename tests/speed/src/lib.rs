@@ -2,8 +2,9 @@
 //! place on lent values, with fixed arrays, no heap and no unsafe code. Every question is asked,
 //! question 1 of every call included; its fuller form is one replay.
 //!
-//! A call answers 0 or the number of the first question that says no; then nothing is changed. A set
-//! of zones is a byte in which zone k is the bit of weight 2 to the power k - 1.
+//! A call answers 0 or the number of the first question that says no; then nothing is changed. An
+//! accepted receipt also answers how many items remain on its line. A set of zones is a byte in which
+//! zone k is the bit of weight 2 to the power k - 1.
 
 #![forbid(unsafe_code)]
 

@@ -21,6 +21,7 @@ struct Scene {
     out: [u8; RECORDING_BYTES],
     numbers: Numbers,
     written: site::Written,
+    received: site::Received,
     read: site::Read,
     zone: Zone,
     /// The zone that a step changes.
@@ -45,6 +46,7 @@ impl Scene {
             out: [0; RECORDING_BYTES],
             numbers: Numbers::default(),
             written,
+            received: site::Received::default(),
             read: site::Read::default(),
             zone: Zone {
                 number: 1,
@@ -184,11 +186,13 @@ const RECEIVE: Call = Call {
         },
         |s| {
             s.set_back();
-            proved::receive(&mut s.work, s.first, s.second)
+            s.received = proved::receive(&mut s.work, s.first, s.second);
+            s.received.refusal
         },
         |s| {
             s.set_back();
-            s.work.receive(s.first, s.second)
+            s.received = s.work.receive(s.first, s.second);
+            s.received.refusal
         },
     ],
 };
@@ -454,13 +458,14 @@ fn try_out(case: &mut Case) {
         if zone.mark == 0 {
             zone.saved = Saved::default();
         }
-        (scene.work, scene.out, zone)
+        (scene.work, scene.out, zone, scene.received)
     };
     let (theirs, mine) = (shown(proved), shown(peer));
     let reads = case.label.starts_with("read\t");
     assert!(reads || theirs.0 == mine.0, "{}: the runs", case.label);
     assert!(theirs.1 == mine.1, "{}: the bytes", case.label);
     assert!(theirs.2 == mine.2, "{}: the zones", case.label);
+    assert!(theirs.3 == mine.3, "{}: what remains", case.label);
 }
 
 /// One call, alone in a function that callgrind can name.

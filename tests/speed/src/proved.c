@@ -20,9 +20,11 @@ uint8_t proved_send(cut_run *run, uint8_t from, uint8_t to, uint8_t cars)
     return cut_send(run, from, to, cars);
 }
 
-uint8_t proved_receive(cut_run *run, uint8_t from, uint8_t to)
+uint8_t proved_receive(cut_run *run, uint8_t from, uint8_t to, uint8_t *remaining)
 {
-    return cut_receive(run, from, to);
+    cut_received r = cut_receive(run, from, to);
+    *remaining = r.remaining;
+    return r.refusal;
 }
 
 uint8_t proved_start(cut_run *run, uint8_t zone)
@@ -67,11 +69,12 @@ uint8_t proved_read_record(const uint8_t *bytes, size_t n, uint8_t *out, size_t 
     return tell(told, cut_journal_record(bytes, n, out, size));
 }
 
-uint8_t proved_read(const uint8_t *bytes, size_t n, cut_run *run, size_t *position)
+uint8_t proved_read(const uint8_t *bytes, size_t n, cut_run *run, size_t *position, uint8_t *remaining)
 {
     cut_reading r = cut_journal_read(bytes, n);
     *run = r.run;
     *position = r.position;
+    *remaining = r.remaining;
     return r.refusal;
 }
 

@@ -1,6 +1,6 @@
 //! The calls of the proved code, through src/proved.c and libcut.a.
 
-use speed::site::{Local, Read, Run, Written};
+use speed::site::{Local, Read, Received, Run, Written};
 use speed::zone::{Answer, Zone};
 use std::mem::{offset_of, size_of};
 
@@ -24,7 +24,7 @@ mod raw {
             n: usize,
         ) -> u8;
         pub fn proved_send(run: *mut Run, from: u8, to: u8, cars: u8) -> u8;
-        pub fn proved_receive(run: *mut Run, from: u8, to: u8) -> u8;
+        pub fn proved_receive(run: *mut Run, from: u8, to: u8, remaining: *mut u8) -> u8;
         pub fn proved_start(run: *mut Run, zone: u8) -> u8;
         pub fn proved_enter(run: *mut Run, zone: u8, cars: u8) -> u8;
         pub fn proved_leave(run: *mut Run, zone: u8, cars: u8) -> u8;
@@ -47,7 +47,13 @@ mod raw {
             size: usize,
             numbers: *mut Numbers,
         ) -> u8;
-        pub fn proved_read(bytes: *const u8, n: usize, run: *mut Run, position: *mut usize) -> u8;
+        pub fn proved_read(
+            bytes: *const u8,
+            n: usize,
+            run: *mut Run,
+            position: *mut usize,
+            remaining: *mut u8,
+        ) -> u8;
         pub fn proved_read_here(bytes: *const u8, n: usize) -> u8;
         pub fn proved_zone_open(
             zone: *mut Zone,
@@ -150,8 +156,10 @@ pub fn send(run: &mut Run, from: u8, to: u8, cars: u8) -> u8 {
     unsafe { raw::proved_send(run, from, to, cars) }
 }
 
-pub fn receive(run: &mut Run, from: u8, to: u8) -> u8 {
-    unsafe { raw::proved_receive(run, from, to) }
+pub fn receive(run: &mut Run, from: u8, to: u8) -> Received {
+    let mut remaining = 0;
+    let refusal = unsafe { raw::proved_receive(run, from, to, &mut remaining) };
+    Received { refusal, remaining }
 }
 
 pub fn start(run: &mut Run, zone: u8) -> u8 {
@@ -201,9 +209,14 @@ pub fn read_record(journal: &[u8], out: &mut [u8], numbers: &mut Numbers) -> u8 
 }
 
 pub fn read(run: &mut Run, bytes: &[u8]) -> Read {
-    let mut position = 0;
-    let refusal = unsafe { raw::proved_read(bytes.as_ptr(), bytes.len(), run, &mut position) };
-    Read { refusal, position }
+    let (mut position, mut remaining) = (0, 0);
+    let (bytes, n) = (bytes.as_ptr(), bytes.len());
+    let refusal = unsafe { raw::proved_read(bytes, n, run, &mut position, &mut remaining) };
+    Read {
+        refusal,
+        position,
+        remaining,
+    }
 }
 
 /// Reads a journal into a struct of the caller's in C.

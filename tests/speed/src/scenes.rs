@@ -16,7 +16,11 @@ fn opened(edition: u8, zones: u8, stock: u16) -> Run {
 
 fn hand_over(run: &mut Run, from: u8, to: u8, cars: u8) {
     must(run.send(from, to, cars));
-    must(run.receive(from, to));
+    take(run, from, to);
+}
+
+fn take(run: &mut Run, from: u8, to: u8) {
+    must(run.receive(from, to).refusal);
 }
 
 fn room(run: &Run, records: usize) -> usize {
@@ -32,7 +36,7 @@ fn take_request(run: &mut Run) -> bool {
     let Some(line) = asked else {
         return false;
     };
-    must(run.receive(line as u8 / 8 + 1, line as u8 % 8 + 1));
+    take(run, line as u8 / 8 + 1, line as u8 % 8 + 1);
     true
 }
 
@@ -113,7 +117,7 @@ fn fill(random: &mut Random, run: &mut Run, receives: bool) {
     if length < 14 || length < 16 && random.chance(50) {
         must(run.send(from, to, random.within(0, 20) as u8));
     } else if receives {
-        must(run.receive(from, to));
+        take(run, from, to);
     }
 }
 

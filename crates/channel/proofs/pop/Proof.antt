@@ -4,16 +4,17 @@ use mathlib.Core.Path.{_≡_, refl, sym, subst, _∙_, ap}
 use Prim.Native.Nat.{ℕ, _≤_, _-_, _+_, _*_}
 use native.Mathlib.Omega.{arith}
 use native.Mathlib.Nat.{add-zero}
+use lib.Seq.{getD-set-same}
 use Rattle.channel.specs.Channels.{movedDown, popped}
-use Rattle.channel.proofs.Laws.{down-more, down-none}
+use Rattle.channel.proofs.Laws.{down-more, down-none, has-place}
 use Rattle.channel.proofs.pop.Statement.{statement}
 use Rattle.channel.proofs.pop.Tie as tie
 
 abbrev Inv-loop : tie.InvT-loop
-Inv-loop items₀ lens k at last first i₀ items i = (i ≤ 15) × (movedDown items (at + i) (15 - i) ≡ movedDown items₀ at 15)
+Inv-loop items₀ lens k at last word i₀ items i = (i ≤ 15) × (movedDown items (at + i) (15 - i) ≡ movedDown items₀ at 15)
 
 abbrev μ-loop : tie.MeasureT-loop
-μ-loop items₀ lens k at last first i₀ items i = 15 - i
+μ-loop items₀ lens k at last word i₀ items i = 15 - i
 
 mul-at : tie.Need-mul-at Inv-loop μ-loop
 mul-at c = search needs
@@ -21,11 +22,11 @@ mul-at c = search needs
 add-last : tie.Need-add-last Inv-loop μ-loop
 add-last c = search needs
 
-mul-first : tie.Need-mul-first Inv-loop μ-loop
-mul-first c = search needs
+mul-word : tie.Need-mul-word Inv-loop μ-loop
+mul-word c = search needs
 
-element-copy-out-first : tie.Need-element-copy-out-first Inv-loop μ-loop
-element-copy-out-first c = search needs
+element-copy-out-word : tie.Need-element-copy-out-word Inv-loop μ-loop
+element-copy-out-word c = search needs
 
 loop-holds : tie.Need-loop-holds Inv-loop μ-loop
 loop-holds c =
@@ -71,11 +72,11 @@ mul-items-3 c = search needs
 element-write-items-2 : tie.Need-element-write-items-2 Inv-loop μ-loop
 element-write-items-2 c = search needs
 
-element-copy-out-lens : tie.Need-element-copy-out-lens Inv-loop μ-loop
-element-copy-out-lens c = search needs
+element-copy-out-remaining : tie.Need-element-copy-out-remaining Inv-loop μ-loop
+element-copy-out-remaining c = search needs
 
-sub-lens : tie.Need-sub-lens Inv-loop μ-loop
-sub-lens c = search needs
+sub-remaining : tie.Need-sub-remaining Inv-loop μ-loop
+sub-remaining c = search needs
 
 element-write-lens : tie.Need-element-write-lens Inv-loop μ-loop
 element-write-lens c = search needs
@@ -89,7 +90,7 @@ returns c =
     let d : l .items ≡ movedDown (a .items .now) (a .k * 16) 15 =
     sym (down-none (l .items) (a .k * 16 + 15))
     ∙ subst (λ (n : ℕ). movedDown (l .items) (a .k * 16 + n) (15 - n) ≡ movedDown (a .items .now) (a .k * 16) 15) i (l .inv .1) in
-    (refl, rw (d))
+    (refl, sym (getD-set-same (a .lens .now) (a .k) _ 0 (has-place (a .lens .now) (a .k) (c .before .before .before .before .pre .1))), rw (d))
 
 pub pop-spec : {M : Type 1} → statement M
 pop-spec =
@@ -99,8 +100,8 @@ pop-spec =
     μ-loop
     mul-at
     add-last
-    mul-first
-    element-copy-out-first
+    mul-word
+    element-copy-out-word
     loop-holds
     add-items
     add-items-2
@@ -114,7 +115,7 @@ pop-spec =
     loop-again
     mul-items-3
     element-write-items-2
-    element-copy-out-lens
-    sub-lens
+    element-copy-out-remaining
+    sub-remaining
     element-write-lens
     returns)

@@ -137,7 +137,7 @@ returns-4 c = λ started held.
     let t = q .before .before in
     let h = holding t in
     let p = indexed h in
-    receive-quiet _ _ _ _ _ started held _ (p .channel-index .ensures .0) (h .if3 .left) _ (t .take .ensures) (q .if4 .taken) _ (c .before .pop .ensures .1)
+    receive-quiet _ _ _ _ _ started held _ (p .channel-index .ensures .0) (h .if3 .left) _ (t .take .ensures) (q .if4 .taken) _ _ (behind (roomy p) .fits .0) (c .before .pop .ensures .2) (c .before .pop .ensures .1)
     ∙ behind (roomy p) .own _ started held
 
 cast-highest-full : tie.Need-cast-highest-full
@@ -177,8 +177,8 @@ returns-6 c = λ started held.
     let t = taken (asking f) in
     let h = holding t in
     let p = indexed h in
-    receive-0 _ _ _ _ _ started held _ (p .channel-index .ensures .0) (h .if3 .left) _ (t .take .ensures) _ _
-    (none-full _ _ _ _ (f .highest-full .ensures _) (i .if5 .left)) (o .pop2 .ensures .1) (d .request-all .ensures)
+    receive-0 _ _ _ _ _ started held _ (p .channel-index .ensures .0) (h .if3 .left) _ (t .take .ensures) _ _ _ (behind (roomy p) .fits .0)
+    (none-full _ _ _ _ (f .highest-full .ensures _) (i .if5 .left)) (o .pop2 .ensures .2) (o .pop2 .ensures .1) (d .request-all .ensures)
     ∙ behind (roomy p) .own _ started held
 
 pub receive-spec : {M : Type 1} → statement M

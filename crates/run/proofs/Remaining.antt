@@ -1,0 +1,125 @@
+-- How many items remain (request 2.4): an accepted receipt answers the number of items on its channel in the run that it hands back, requests
+-- too, every other answer 0; and over a list the last accepted receipt decides.
+use mathlib.Core.Path.{_≡_, refl, sym, _∙_, ap, subst}
+use mathlib.Core.Bool.{Bool, true, false, cond, _&&_, true≢false}
+use mathlib.Core.List.{List, [], _∷_, _++_}
+use mathlib.Core.Logic.{_≢_, _⊎_, inl, inr}
+use Prim.Native.Nat.{ℕ, _+_, _<_}
+use native.Mathlib.Omega.{arith}
+use lib.ListN.{length}
+use borrow.Author.Tests.{eqb-true}
+use Rattle.rules.specs.Limits.{places}
+use Rattle.rules.specs.Questions.{index}
+use Rattle.channel.specs.Channels.{channelIndex, lenOf, popped}
+use Rattle.channel.proofs.View.{len-pop-same, requested-other}
+use Rattle.run.specs.Calls.{answer, granted}
+use Rattle.run.specs.Claims.{WholeRun, NoReceipt}
+use Rattle.run.specs.Lists.{isAccepted, isReceipt, after, lastRemaining}
+use Rattle.run.specs.Model.{siteOf}
+use Rattle.run.specs.Opening.{openCall}
+use Rattle.run.specs.State.{countOf}
+use Rattle.run.specs.declared.Answer.{Answer}
+use Rattle.run.specs.declared.Opening.{Opening}
+use Rattle.run.specs.declared.Run.{Run}
+use Rattle.run.specs.declared.SiteCall.{SiteCall}
+use Rattle.run.specs.declared.SiteCall.the-variants.{Receive, Send, Start, Gate}
+use Rattle.run.proofs.Accepts.{len-is}
+use Rattle.run.proofs.Outcome.{Pair, gotBy, Passed, Refused, outcome, passed, open-outcome, Opened, NotOpened}
+use Rattle.run.proofs.Parts.{SoundRun, parts, on-site}
+use Rattle.run.proofs.Sound.{call-sound}
+use Rattle.run.proofs.Whole.{call-whole}
+
+-- Beside a refusal it is 0, and so is it of a call that is no receipt, and of an opening.
+pub refused-none : (c : SiteCall) (r : Run) → answer c r .refusal ≢ 0 → answer c r .remaining ≡ 0
+refused-none c r d = go (outcome c r)
+  where
+    go : Passed c r ⊎ Refused c r → answer c r .remaining ≡ 0
+    go (inl p) = absurd (d (eqb-true (answer c r .refusal) 0 (p .said)))
+    go (inr p) = p .none
+
+pub other-none : (c : SiteCall) (r : Run) → isReceipt c ≡ false → answer c r .remaining ≡ 0
+other-none c r e = go (outcome c r)
+  where
+    nothing : (c : SiteCall) → isReceipt c ≡ false → granted c r .remaining ≡ 0
+    nothing (Send from to cars) e = refl
+    nothing (Receive from to) e = absurd (true≢false e)
+    nothing (Start zone) e = refl
+    nothing (Gate d zone cars) e = refl
+
+    go : Passed c r ⊎ Refused c r → answer c r .remaining ≡ 0
+    go (inl p) = ap (λ (x : Answer). x .remaining) (p .result) ∙ nothing c e
+    go (inr p) = p .none
+
+pub open-none : (o : Opening) → openCall o .remaining ≡ 0
+open-none o = go (open-outcome o)
+  where
+    go : Opened o ⊎ NotOpened o → openCall o .remaining ≡ 0
+    go (inl p) = ap (λ (x : Answer). x .remaining) (p .result)
+    go (inr p) = ap (λ (x : Answer). x .remaining) (p .result)
+
+-- An accepted receipt, on any run, true or not.
+module _ (from to : ℕ) (r : Run) (w : WholeRun r) (e : isAccepted (Receive from to) r ≡ true) where
+  abbrev next : Run
+  next = answer (Receive from to) r .run
+
+  abbrev line : ℕ
+  line = channelIndex (index from) (index to)
+
+  taken : Passed (Receive from to) r
+  taken = passed (Receive from to) r e
+
+  on-line : Pair (countOf (r .head)) (index from) (index to)
+  on-line = taken .asks .0
+
+  same-count : countOf (next .head) ≡ countOf (r .head)
+  same-count = ap (λ (x : Answer). countOf (x .run .head)) (taken .result)
+
+  -- It answers the number of items on its channel, hand-overs and requests, in the run that it hands back.
+  pub remaining-is : answer (Receive from to) r .remaining ≡ length (siteOf (answer (Receive from to) r .run) .channel (index from) (index to))
+  remaining-is =
+      let sound = parts next (call-sound (Receive from to) r w tt (taken .sound)) in
+      let pair = subst (λ (n : ℕ). Pair n (index from) (index to)) (sym same-count) on-line in
+      ap (λ (x : Answer). x .remaining) (taken .result) ∙ ap (λ (x : Answer). lenOf (x .run .channels) line) (sym (taken .result))
+      ∙ sym (len-is next (call-whole (Receive from to) r w) sound (index from) (index to) pair)
+
+  -- One less than before it: the requests that it sends leave this channel alone.
+  pub remaining-less : answer (Receive from to) r .remaining + 1 ≡ length (siteOf r .channel (index from) (index to))
+  remaining-less =
+      let s = parts r (taken .sound) in
+      let near : index to < 8 = omega (arith, on-line .to, s .most) in
+      let k : line < 64 = omega (arith, on-line .from, near, s .most) in
+      let got = gotBy (index from) (index to) r in
+      let alone : granted (Receive from to) r .remaining ≡ lenOf (popped (r .channels) line) line =
+      requested-other (popped (r .channels) line) (index to) (got .to) (got .carried) (index from) (index to) (on-line .apart) near in
+      omega (
+        arith,
+        ap (λ (x : Answer). x .remaining) (taken .result),
+        alone,
+        len-pop-same (r .channels) line (w .channels) k,
+        taken .asks .1,
+        len-is r w s (index from) (index to) on-line,
+      )
+
+  -- So it is at most 15.
+  pub remaining-few : answer (Receive from to) r .remaining < places
+  remaining-few =
+      let s = parts r (taken .sound) in
+      omega (
+        arith,
+        remaining-less,
+        len-is r w s (index from) (index to) on-line,
+        s .lens (index from) (index to) (on-site (countOf (r .head)) (index from) (index to) (s .most) (on-line .from) (on-line .to) (on-line .apart)),
+      )
+
+-- Over a list of calls, refused ones included: without an accepted receipt it is what it was before, else what the last one answered.
+pub last-none : (last : ℕ) (cs : List SiteCall) (r : Run) → NoReceipt cs r → lastRemaining last cs r ≡ last
+last-none last [] r h = refl
+last-none last (c ∷ cs) r h = rw (h .0) (last-none last cs (answer c r .run) (h .1))
+
+pub last-is : (last : ℕ) (before behind : List SiteCall) (from to : ℕ) (r : Run) → let s = after before r in
+    isAccepted (Receive from to) s ≡ true → NoReceipt behind (answer (Receive from to) s .run)
+    → lastRemaining last (before ++ (Receive from to ∷ behind)) r ≡ answer (Receive from to) s .remaining
+last-is last [] behind from to r e h =
+    let t = answer (Receive from to) r in
+    ap (λ (b : Bool). lastRemaining (cond (b && true) (t .remaining) last) behind (t .run)) e ∙ last-none (t .remaining) behind (t .run) h
+last-is last (c ∷ before) behind from to r e h = last-is _ before behind from to (answer c r .run) e h
