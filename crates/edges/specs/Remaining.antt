@@ -35,8 +35,8 @@ nines edition = ninesIn edition (zone 9 1 0 None ∷ zone 9 2 0 None ∷ []) [] 
 abbrev pub journalOf : ℕ → ℕ → List ℕ → List ℕ
 journalOf first records words = first ∷ records ∷ 0x00 ∷ 0x09 ∷ 0x00 ∷ 0x09 ∷ words
 
--- Zone 1 has sent so many messages of 0 cars to zone 2, 16 in all, and zone 2 has received the others.
-abbrev pub sixteenSent : ℕ → ℕ → Local → Run
+-- Zone 1 has sent 16 messages of 0 cars to zone 2, which is z now: so many are left on the channel, and so many have been received.
+abbrev pub sixteenSent : (left received : ℕ) → Local → Run
 sixteenSent left received z =
     ninesIn 1 (zone 9 1 16 None ∷ z ∷ []) (channel 1 2 (replicate left (message 0 false)) ∷ []) (replicate 16 0x0100 ++ replicate received 0x4100)
 
@@ -49,7 +49,8 @@ receipts =
     ∷ receives (sixteenSent 16 0 (zone 9 2 0 None)) (replicate 14 (Receive 1 2)) 1 2 1 (sixteenSent 1 15 (zone 9 3 15 None))
     ∷ receives (sixteenSent 16 0 (zone 9 2 0 None)) (replicate 15 (Receive 1 2)) 1 2 0 (sixteenSent 0 16 (zone 9 3 16 None))
     ∷ gives (sixteenSent 16 0 (zone 9 2 0 None)) (replicate 16 (Receive 1 2)) (Receive 1 2) 9 (sixteenSent 0 16 (zone 9 3 16 None))
-    -- A refused receipt, though items are there; another call that is refused, and one that is accepted.
+    -- Refused receipts: items wait on the way back, and in the site; no calls lead to 17 on this channel. Then a message that is refused, and
+    -- an entry that is accepted.
     ∷ gives (sixteenSent 16 0 (zone 9 2 0 None)) [] (Receive 2 1) 9 (sixteenSent 16 0 (zone 9 2 0 None))
     ∷ gives (sixteenSent 16 0 (zone 9 2 0 None)) [] (Receive 1 1) 5 (sixteenSent 16 0 (zone 9 2 0 None))
     ∷ gives (sixteenSent 17 0 (zone 9 2 0 None)) [] (Receive 1 2) 1 (sixteenSent 17 0 (zone 9 2 0 None))
@@ -101,6 +102,12 @@ requests =
     (zone 9 3 2 (permanent 9 2) ∷ zone 9 2 1 None ∷ zone 5 5 2 (permanent 9 1) ∷ [])
     (channel 1 2 (request 7 ∷ []) ∷ channel 3 1 (message 4 true ∷ []) ∷ [])
     (0x0800 ∷ 0x4800 ∷ 0x0200 ∷ 0x4200 ∷ 0x9000 ∷ 0x1004 ∷ 0x5000 ∷ []))
+    -- The line to zone 2 is full: the receipt is refused with 10, though two items wait.
+    ∷ gives threeNines (passedOn ++ replicate 16 (Send 1 2 0)) (Receive 3 1) 10 (runIn 1
+    (9 ∷ 9 ∷ 9 ∷ [])
+    (zone 9 3 18 None ∷ zone 9 2 1 None ∷ zone 5 5 2 (permanent 9 1) ∷ [])
+    (channel 1 2 (replicate 16 (message 0 false)) ∷ channel 3 1 (request 5 ∷ message 4 true ∷ []) ∷ [])
+    (0x0800 ∷ 0x4800 ∷ 0x0200 ∷ 0x4200 ∷ 0x9000 ∷ 0x1004 ∷ replicate 16 0x0100))
     -- The request that is sent stands on the way back, and does not count.
     ∷ receives strange [] 1 2 2 (ninesIn 1
     (zone 9 1 0 None ∷ zone 9 3 0 (permanent 9 0) ∷ [])
@@ -134,7 +141,11 @@ readings =
     (zone 6 1 2 None ∷ zone 9 2 0 None ∷ [])
     (channel 1 2 (message 1 false ∷ message 2 false ∷ []) ∷ [])
     (0x0101 ∷ 0x0102 ∷ []))
-    -- A gate behind it changes nothing.
+    -- A start behind it changes nothing, nor does a gate.
+    ∷ tells (journalOf 0x24 4 (0x01 ∷ 0x01 ∷ 0x01 ∷ 0x02 ∷ 0x41 ∷ 0x00 ∷ 0x80 ∷ 0x00 ∷ [])) 1 (ninesIn 1
+    (zone 6 1 2 (permanent 6 2) ∷ zone 10 3 1 None ∷ [])
+    (channel 1 2 (message 2 false ∷ []) ∷ [])
+    (0x0101 ∷ 0x0102 ∷ 0x4100 ∷ 0x8000 ∷ []))
     ∷ tells (journalOf 0x64 4 (0x01 ∷ 0x01 ∷ 0x01 ∷ 0x02 ∷ 0x41 ∷ 0x00 ∷ 0xC0 ∷ 0x03 ∷ [])) 1 (ninesIn 3
     (zone 9 1 3 None ∷ zone 10 3 1 None ∷ [])
     (channel 1 2 (message 2 false ∷ []) ∷ [])

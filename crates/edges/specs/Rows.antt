@@ -91,7 +91,7 @@ opensIn edition count stocks n r = record {
 abbrev pub opens : ℕ → List ℕ → ℕ → Run → Row
 opens = opensIn 1
 
--- A call on a run after some calls that leaves nothing on a receipt's channel, with the refusal's number and the run.
+-- A call on a run after some calls that answers that nothing remains, with the refusal's number and the run.
 abbrev pub gives : Run → List SiteCall → SiteCall → ℕ → Run → Row
 gives r cs c n r′ = record { call = Call r cs c; expected = site (record { refusal = n; remaining = 0; run = r′ }) }
 
@@ -114,7 +114,7 @@ writes r cs lent n number bytes = record {
   expected = output (record { answer = record { refusal = n; written = number }; bytes = bytes });
 }
 
--- A reading whose last receipt leaves nothing, or that has none, with the refusal's number, the record's position and the run.
+-- A reading that answers that nothing remains, with the refusal's number, the record's position and the run.
 abbrev pub reads : List ℕ → ℕ → ℕ → Run → Row
 reads journal n position r = record {
   call = Read journal;

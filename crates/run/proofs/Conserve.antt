@@ -12,7 +12,7 @@ use Rattle.rules.specs.Change.{on, join}
 use Rattle.rules.specs.Questions.{index}
 use Rattle.rules.specs.Sets.{has}
 use Rattle.rules.specs.Zone.{isPermanent, needed, through, requested, started, targets, carried}
-use Rattle.rules.specs.Site.{Item, message, request, Site, send, receive, start, gate, entering, leaving, popS, requestAllS, turnS, stepS, takeS}
+use Rattle.rules.specs.Site.{Item, message, request, Site, send, gate, entering, leaving, popS, requestAllS, turnS, stepS, takeS}
 use Rattle.rules.specs.Cut.{May}
 use Rattle.rules.specs.declared.Local.{Local}
 use Rattle.rules.proofs.Guarded.{on-same, on-same-at}

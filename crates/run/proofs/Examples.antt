@@ -104,12 +104,12 @@ Gates =
     × (answer (Gate Out 1 11) (opened 3) .refusal ≡ 7) × (answer (Gate In 2 1) full-site .refusal ≡ 21)
     × (answer (Gate In 2 0) full-site .refusal ≡ 0) × (answer (Gate In 2 1) (after (Gate Out 1 1 ∷ []) full-site) .refusal ≡ 0)
 
--- How many remain: after the first of two messages; after the message that the starter's request stands behind; 0 on the channel of a receipt
--- that is refused, though an item is there, and of a message.
+-- How many remain: after the first of two messages; after the message that the starter's request stands behind. Of a receipt that is refused
+-- it is 0, though two items are there, and of a message.
 abbrev Remaining : Type 0
 Remaining = (answer (Receive 1 2) (after (Send 1 2 5 ∷ Send 1 2 4 ∷ []) three) .remaining ≡ 1)
     × (answer (Receive 1 2) (after (Send 2 1 1 ∷ Receive 2 1 ∷ Send 1 2 1 ∷ Start 1 ∷ []) three) .remaining ≡ 1)
-    × (answer (Receive 3 1) (after full three) .remaining ≡ 0) × (answer (Send 1 2 5) (after two three) .remaining ≡ 0)
+    × (answer (Receive 3 1) (answer (Send 3 1 1) (after full three) .run) .remaining ≡ 0) × (answer (Send 1 2 5) (after two three) .remaining ≡ 0)
 
 pub computed : Flag × First × Sent × Refused × Numbers × Checks × Gates × Remaining
 unfolding isEdition isTraffic hasGates isCount isOn has members requestedBy startedBy itemOf messageWord pushed movedDown popped allFree requestedAll isChannel localSound localsSound channelSound channelsSound stocks carsOnChannels partsSound hasStarted openedRun isPair openCall answer

@@ -9,9 +9,8 @@ use native.Mathlib.Omega.{arith}
 use Rattle.rules.specs.Below.{sum}
 use Rattle.rules.specs.Change.{cons-if}
 use Rattle.rules.specs.Questions.{index}
-use Rattle.rules.specs.Site.{Site, Call, entering, leaving}
+use Rattle.rules.specs.Site.{Site, entering, leaving}
 use Rattle.rules.specs.Zone.{through}
-use Rattle.rules.specs.declared.Local.{Local}
 use Rattle.rules.specs.declared.Direction.{Direction}
 use Rattle.rules.proofs.Editions.{no-gates}
 use Rattle.rules.proofs.Gates as rules

@@ -1,6 +1,6 @@
 -- What the claims over calls and lists of calls speak of, beside the calls themselves.
 use mathlib.Core.Path.{_≡_}
-use mathlib.Core.Bool.{false, cond, _&&_}
+use mathlib.Core.Bool.{true, false, cond}
 use mathlib.Core.List.{List, [], _∷_, _++_}
 use Prim.Native.Nat.{ℕ, _+_, _≤_, _<_}
 use lib.Dec.{leb, ltb}
@@ -15,7 +15,7 @@ use Rattle.rules.specs.declared.Direction.the-variants.{In, Out}
 use Rattle.channel.specs.Channels.{Whole}
 use Rattle.run.specs.State.{locals}
 use Rattle.run.specs.Calls.{isPair, recordOf, ownGateQuestions, answer}
-use Rattle.run.specs.Lists.{isAccepted, callOf, isReceipt}
+use Rattle.run.specs.Lists.{isAccepted, callOf, after}
 use Rattle.run.specs.declared.Run.{Run}
 use Rattle.run.specs.declared.SiteCall.{SiteCall}
 use Rattle.run.specs.declared.SiteCall.the-variants.{Send, Receive, Start, Gate}
@@ -47,10 +47,19 @@ abbrev pub left : List SiteCall → Run → ℕ
 left [] r = 0
 left (c ∷ cs) r = cond (isAccepted c r) (leaving (callOf c)) 0 + left cs (answer c r .run)
 
--- No accepted call of the list is a receipt.
+-- No accepted call of the list is a receipt; and the accepted one that is the last of a list.
 abbrev pub NoReceipt : List SiteCall → Run → Type 0
 NoReceipt [] r = Unit {0}
-NoReceipt (c ∷ cs) r = (isAccepted c r && isReceipt c ≡ false) × NoReceipt cs (answer c r .run)
+NoReceipt (c ∷ cs) r = ((from to : ℕ) → c ≡ Receive from to → isAccepted c r ≡ false) × NoReceipt cs (answer c r .run)
+
+pub record LastReceipt (cs : List SiteCall) (r : Run) : Type 0 where
+  pub before : List SiteCall
+  pub from : ℕ
+  pub to : ℕ
+  pub behind : List SiteCall
+  pub split : cs ≡ before ++ (Receive from to ∷ behind)
+  pub accepted : isAccepted (Receive from to) (after before r) ≡ true
+  pub none : NoReceipt behind (answer (Receive from to) (after before r) .run)
 
 -- What a sound run answers to a hand-over, by the zone count, the number of records, the sender's stock and the channel's length
 -- alone: whether a recording is started is not asked.

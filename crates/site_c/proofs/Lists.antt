@@ -19,7 +19,7 @@ use Rattle.run.specs.Calls.{answer}
 use Rattle.run.specs.declared.Run.{Run}
 use Rattle.run.proofs.BelowLaws.{all-of, length-below, list-at}
 use Rattle.run.proofs.Outcome.{kept}
-use Rattle.run.proofs.Remaining.{refused-none}
+use Rattle.run.proofs.Remaining.{refused-none, open-none}
 use Rattle.run.proofs.Whole.{call-whole, open-whole}
 use Rattle.journal.specs.Writing.{writeCall}
 use Rattle.journal.specs.Reading.{readCall}
@@ -28,7 +28,7 @@ use Rattle.recording.specs.Journal.{recordJournal}
 use Rattle.recording.proofs.Totals.{no-total, read-total, journal-no-total}
 use Rattle.zone_c.specs.Plain.{kindOf}
 use Rattle.zone_c.proofs.Laws.{mark-back}
-use Rattle.site_c.specs.Plain.{localOf, plainLocal, noPlain, plainAt, localsOf, plainLocals, areKinds, runOf, plainRun, plainAnswer, refusedPlain, answerPlain, openPlain, callPlain, afterPlain, plainOutput, plainRecording, PlainOutput, refusedPlainOutput, recordPlain, recordedPlain, writePlain}
+use Rattle.site_c.specs.Plain.{localOf, plainLocal, noPlain, plainAt, localsOf, plainLocals, areKinds, runOf, plainRun, plainAnswer, refusedPlain, answerPlain, openPlain, callPlain, afterPlain, plainOutput, plainRecording, PlainOutput, refusedPlainOutput, recordPlain, recordedPlain, writePlain, readPlain}
 use Rattle.site_c.specs.declared.PlainAnswer.{PlainAnswer}
 use Rattle.site_c.specs.declared.PlainRun.{PlainRun}
 use Rattle.run.specs.Opening.{openCall, termsAs, openingAs}
@@ -78,9 +78,16 @@ pub call-plain : (c : SiteCall) (r : Run) → WholeRun r → callPlain c (plainR
 unfolding callPlain
 call-plain c r w = rw (kinds (locals (r .head)), run-back r w) (told c r)
 
--- C is answered how many items remain as the engine's caller is; and 0 beside a refusal, whatever the run.
-pub call-plain-remaining : (c : SiteCall) (r : Run) → WholeRun r → callPlain c (plainRun r) .remaining ≡ answer c r .remaining
-call-plain-remaining c r w = ap (λ (a : PlainAnswer). a .remaining) (call-plain c r w)
+-- How many items remain, in C: on every struct whose mark kinds are sound what the engine answers of the run that it stands for; 0 beside a
+-- refusal, whatever the struct, and of an opening; of a journal what the reader tells.
+pub call-plain-remaining : (c : SiteCall) (p : PlainRun) → areKinds (p .head .zones) ≡ true → callPlain c p .remaining ≡ answer c (runOf p) .remaining
+unfolding callPlain answerPlain
+call-plain-remaining c p k = rw k (go (eqb (answer c (runOf p) .refusal) 0) refl)
+  where
+    go : (b : Bool) → eqb (answer c (runOf p) .refusal) 0 ≡ b
+        → cond b (plainAnswer (answer c (runOf p))) (refusedPlain p (answer c (runOf p) .refusal)) .remaining ≡ answer c (runOf p) .remaining
+    go true e = refl
+    go false e = sym (refused-none c (runOf p) (eqb-false (answer c (runOf p) .refusal) 0 e))
 
 pub call-plain-none : (c : SiteCall) (p : PlainRun) → callPlain c p .refusal ≢ 0 → callPlain c p .remaining ≡ 0
 unfolding callPlain answerPlain
@@ -93,6 +100,12 @@ call-plain-none c p = go (areKinds (p .head .zones)) (eqb (answer c (runOf p) .r
     go true true h = refused-none c (runOf p) h
     go true false h = refl
     go false accepted h = refl
+
+pub open-plain-none : (edition count : ℕ) (stocks : List ℕ) → openPlain edition count stocks .remaining ≡ 0
+open-plain-none edition count stocks = open-none (openingAs (termsAs edition count) stocks)
+
+pub read-plain-remaining : (bytes : List ℕ) → readPlain bytes .remaining ≡ readCall bytes .remaining
+read-plain-remaining bytes = refl
 
 pub calls-plain : (cs : List SiteCall) (r : Run) → WholeRun r → afterPlain cs (plainRun r) ≡ plainRun (after cs r)
 calls-plain [] r w = refl
