@@ -19,7 +19,7 @@ use Rattle.rules.specs.Limits.{mostCars}
 use Rattle.rules.specs.Opening.{Opening}
 use Rattle.rules.specs.Park.{Move, inside, total, entries, exits}
 use Rattle.rules.specs.Questions.{Question, question, ask, Among, isCount, isOn}
-use Rattle.rules.specs.Site.{Item, message, request, Site, Call, send, receive, start, gate, entering, stepS, openS}
+use Rattle.rules.specs.Site.{Item, message, request, Site, Call, send, receive, start, gate, entering, openS}
 use Rattle.rules.specs.declared.Direction.the-variants.{In, Out}
 use Rattle.rules.proofs.AskLaws.{AllYes, numbers, lacks, not-among, ask-cases}
 use Rattle.rules.proofs.Conservation.{Between, present-total, recorded-total}

@@ -3,7 +3,7 @@ use mathlib.Core.Bool.{Bool, not, _||_}
 use mathlib.Core.List.{List, [], _∷_, map}
 use Prim.Native.Nat.{ℕ, _*_}
 use lib.Dec.{leb}
-use lib.ListN.{length, take}
+use lib.ListN.{length}
 use Rattle.rules.specs.Cut.{Snapshot, snapshot}
 use Rattle.rules.specs.Limits.{mostZones}
 use Rattle.rules.specs.Park.{total}

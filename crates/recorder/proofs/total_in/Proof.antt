@@ -1,5 +1,5 @@
 -- `recorder::total_in` meets its contract: the stocks, then the cars of the items.
-use mathlib.Core.Path.{_≡_, ap₂}
+use mathlib.Core.Path.{ap₂}
 use Prim.Native.Nat.{_+_}
 use borrow.Author.Needs.{needs}
 use Rattle.recording.specs.InnerTotal.{totalIn}

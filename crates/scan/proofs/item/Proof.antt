@@ -3,7 +3,6 @@ use mathlib.Core.Path.{_≡_, refl, sym}
 use Prim.Native.Nat.{_^_, _+_, _-_, _*_, _%_, _≤_}
 use native.Mathlib.Omega.{arith}
 use borrow.Author.Tests.{lt-ltb, le-ltb}
-use lib.Dec.{ltb}
 use lib.Pow.{pow-pos, pow-mono}
 use Rattle.channel.specs.Words.{itemOf}
 use Rattle.scan.proofs.Laws.{below-limit}
