@@ -63,16 +63,24 @@ def unknown(text, names, types):
 
 
 def cut_edits():
-    """What rt would pass over in an edit: a line that is neither empty nor a comment, file, old or new text, and an old text that is not
-    followed at once by its new one."""
+    """What rt would pass over or refuse in an edit: a line that is neither empty nor a comment, file, old or new text; an old text that is not
+    followed at once by its new one; one that does not stand just once in its file, as the pairs before have left it."""
     for path in sorted(ROOT.glob("crates/*/must-fail/*.edit")):
-        old = False
+        old, file, texts = None, None, {}
         for number, line in enumerate(path.read_text(encoding="utf-8").split("\n") + [""], 1):
-            if old and not line.startswith("new:"):
-                yield f"{path.relative_to(ROOT)}:{number}: an old text without its new one"
+            at = f"{path.relative_to(ROOT)}:{number}"
+            if old is not None and not line.startswith("new:"):
+                yield f"{at}: an old text without its new one"
             elif line and not line.startswith(("#", "file: ", "old: ", "new:")):
-                yield f"{path.relative_to(ROOT)}:{number}: rt passes over this line"
-            old = line.startswith("old: ")
+                yield f"{at}: rt passes over this line"
+            elif line.startswith("file: "):
+                file = path.parent.parent / line[len("file: "):]
+                texts.setdefault(file, file.read_text(encoding="utf-8"))
+            elif line.startswith("old: ") and texts[file].count(line[len("old: "):]) != 1:
+                yield f"{at}: this text does not stand just once in {file.relative_to(ROOT)}"
+            elif line.startswith("new:"):
+                texts[file] = texts[file].replace(old, line[len("new: "):])
+            old = line[len("old: "):] if line.startswith("old: ") else None
 
 
 def main():
