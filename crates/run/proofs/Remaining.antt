@@ -62,14 +62,14 @@ module _ (from to : ℕ) (r : Run) (w : WholeRun r) (e : isAccepted (Receive fro
   abbrev next : Run
   next = answer (Receive from to) r .run
 
-  abbrev line : ℕ
-  line = channelIndex (index from) (index to)
+  abbrev own-channel : ℕ
+  own-channel = channelIndex (index from) (index to)
 
   taken : Passed (Receive from to) r
   taken = passed (Receive from to) r e
 
-  on-line : Pair (countOf (r .head)) (index from) (index to)
-  on-line = taken .asks .0
+  between : Pair (countOf (r .head)) (index from) (index to)
+  between = taken .asks .0
 
   same-count : countOf (next .head) ≡ countOf (r .head)
   same-count = ap (λ (x : Answer). countOf (x .run .head)) (taken .result)
@@ -78,26 +78,26 @@ module _ (from to : ℕ) (r : Run) (w : WholeRun r) (e : isAccepted (Receive fro
   pub remaining-is : answer (Receive from to) r .remaining ≡ length (siteOf (answer (Receive from to) r .run) .channel (index from) (index to))
   remaining-is =
       let sound = parts next (call-sound (Receive from to) r w tt (taken .sound)) in
-      let pair = subst (λ (n : ℕ). Pair n (index from) (index to)) (sym same-count) on-line in
-      ap (λ (x : Answer). x .remaining) (taken .result) ∙ ap (λ (x : Answer). lenOf (x .run .channels) line) (sym (taken .result))
+      let pair = subst (λ (n : ℕ). Pair n (index from) (index to)) (sym same-count) between in
+      ap (λ (x : Answer). x .remaining) (taken .result) ∙ ap (λ (x : Answer). lenOf (x .run .channels) own-channel) (sym (taken .result))
       ∙ sym (len-is next (call-whole (Receive from to) r w) sound (index from) (index to) pair)
 
   -- One less than before it: the requests that it sends leave this channel alone.
   pub remaining-less : answer (Receive from to) r .remaining + 1 ≡ length (siteOf r .channel (index from) (index to))
   remaining-less =
       let s = parts r (taken .sound) in
-      let near : index to < 8 = omega (arith, on-line .to, s .most) in
-      let k : line < 64 = omega (arith, on-line .from, near, s .most) in
+      let near : index to < 8 = omega (arith, between .to, s .most) in
+      let k : own-channel < 64 = omega (arith, between .from, near, s .most) in
       let got = gotBy (index from) (index to) r in
-      let alone : granted (Receive from to) r .remaining ≡ lenOf (popped (r .channels) line) line =
-      requested-other (popped (r .channels) line) (index to) (got .to) (got .carried) (index from) (index to) (on-line .apart) near in
+      let alone : granted (Receive from to) r .remaining ≡ lenOf (popped (r .channels) own-channel) own-channel =
+      requested-other (popped (r .channels) own-channel) (index to) (got .to) (got .carried) (index from) (index to) (between .apart) near in
       omega (
         arith,
         ap (λ (x : Answer). x .remaining) (taken .result),
         alone,
-        len-pop-same (r .channels) line (w .channels) k,
+        len-pop-same (r .channels) own-channel (w .channels) k,
         taken .asks .1,
-        len-is r w s (index from) (index to) on-line,
+        len-is r w s (index from) (index to) between,
       )
 
   -- So it is at most 15.
@@ -107,8 +107,8 @@ module _ (from to : ℕ) (r : Run) (w : WholeRun r) (e : isAccepted (Receive fro
       omega (
         arith,
         remaining-less,
-        len-is r w s (index from) (index to) on-line,
-        s .lens (index from) (index to) (on-site (countOf (r .head)) (index from) (index to) (s .most) (on-line .from) (on-line .to) (on-line .apart)),
+        len-is r w s (index from) (index to) between,
+        s .lens (index from) (index to) (on-site (countOf (r .head)) (index from) (index to) (s .most) (between .from) (between .to) (between .apart)),
       )
 
 -- Over a list of calls, refused ones included: without an accepted receipt it is what it was before, else what the last one answered; and every
