@@ -20,7 +20,7 @@ use Rattle.run.specs.declared.Run.{Run}
 use Rattle.run.proofs.BelowLaws.{all-of, length-below, list-at}
 use Rattle.run.proofs.Outcome.{kept}
 use Rattle.run.proofs.Remaining.{refused-none, open-none}
-use Rattle.run.proofs.Whole.{call-whole, open-whole}
+use Rattle.run.proofs.Whole.{call-whole, after-whole, open-whole}
 use Rattle.journal.specs.Writing.{writeCall}
 use Rattle.journal.specs.Reading.{readCall}
 use Rattle.recording.specs.Call.{recordCall}
@@ -118,6 +118,11 @@ module _ (edition count : ℕ) (stocks : List ℕ) (cs : List SiteCall) where
 
   pub opened-plain : afterPlain cs (openPlain edition count stocks .run) ≡ plainRun (after cs (openCall o .run))
   opened-plain = calls-plain cs (openCall o .run) (open-whole o)
+
+  -- The whole answer to the next call: the refusal, how many items remain, the run.
+  pub opened-answer : (c : SiteCall)
+      → callPlain c (afterPlain cs (openPlain edition count stocks .run)) ≡ plainAnswer (answer c (after cs (openCall o .run)))
+  opened-answer c = ap (callPlain c) opened-plain ∙ call-plain c (after cs (openCall o .run)) (after-whole cs (openCall o .run) (open-whole o))
 
 pub record-plain : (r : Run) (lent : List ℕ) → WholeRun r → recordPlain (plainRun r) lent ≡ plainRecording (recordCall r lent)
 unfolding recordPlain
