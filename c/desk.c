@@ -140,8 +140,8 @@ static void full(void)
     must(cut_record(&other, bytes, sizeof bytes).total == CUT_CARS_MAX + 255, "the entry is recorded, the exit is not");
 }
 
-/* Zone 1 hands cars to zone 2 three times. The sign controller of zone 2 comes back soon as long as something remains on the channel
- * ("line"); the journal tells what remained at the last receipt. */
+/* Zone 1 hands cars to zone 2 three times. The sign controller of zone 2 comes back soon as long as its receipts are accepted and something
+ * remains on the channel ("line"): beside a refusal, 0 says nothing of it. The journal tells what remained at the last receipt. */
 static void awaited(void)
 {
     const uint16_t stocks[] = {9, 9};
@@ -154,7 +154,7 @@ static void awaited(void)
     must(got.refusal == CUT_ACCEPTED && got.remaining == 2, "2 takes the first, and two remain");
     cut_written w = cut_write(&other, bytes, sizeof bytes);
     must(cut_journal_read(bytes, w.written).remaining == 2, "the journal tells the same");
-    while (got.remaining > 0)
+    while (got.refusal == CUT_ACCEPTED && got.remaining > 0)
         got = cut_receive(&other, 1, 2);
     must(got.refusal == CUT_ACCEPTED && other.head.zones[1].stock == 15, "2 takes the others, and nothing remains");
     got = cut_receive(&other, 1, 2);

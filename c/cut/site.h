@@ -123,7 +123,8 @@ typedef struct cut_head_answer {
 /* What cut_receive answers. 2 bytes. */
 typedef struct cut_received {
     uint8_t refusal;   /* the "refusal", an enum cut_refusal */
-    uint8_t remaining; /* "how many remain" on the channel ("line") after the receipt: its items, requests too, at most 15; refused, 0 */
+    uint8_t remaining; /* "how many remain" on the channel ("line") after the receipt: its items, requests too, at most 15; refused, 0,
+                        * whatever is there */
 } cut_received;
 
 /* What reading answers. 4,232 bytes, alignment 8. */

@@ -81,8 +81,8 @@ abbrev pub threeNines : Run
 threeNines = runIn 1 (9 ∷ 9 ∷ 9 ∷ []) (zone 9 1 0 None ∷ zone 9 2 0 None ∷ zone 9 4 0 None ∷ []) [] []
 
 -- No calls lead to this: the request names nobody, so that zone 2 sends one back, to zone 1.
-abbrev pub strange : Run
-strange = ninesIn 1
+abbrev pub untrue : Run
+untrue = ninesIn 1
     (zone 9 1 0 None ∷ zone 9 3 0 None ∷ [])
     (channel 1 2 (request 0 ∷ message 0 false ∷ request 0 ∷ []) ∷ [])
     []
@@ -109,7 +109,7 @@ requests =
     (channel 1 2 (replicate 16 (message 0 false)) ∷ channel 3 1 (request 5 ∷ message 4 true ∷ []) ∷ [])
     (0x0800 ∷ 0x4800 ∷ 0x0200 ∷ 0x4200 ∷ 0x9000 ∷ 0x1004 ∷ replicate 16 0x0100))
     -- The request that is sent stands on the way back, and does not count.
-    ∷ receives strange [] 1 2 2 (ninesIn 1
+    ∷ receives untrue [] 1 2 2 (ninesIn 1
     (zone 9 1 0 None ∷ zone 9 3 0 (permanent 9 0) ∷ [])
     (channel 1 2 (message 0 false ∷ request 0 ∷ []) ∷ channel 2 1 (request 3 ∷ []) ∷ [])
     (0x4100 ∷ []))
