@@ -1,5 +1,6 @@
 -- The premises of demand 3 are met: every list of calls can be made from every opening, every recording call has an answer, and case A, a
--- case with a line check in edition 2 and one with gates in edition 3 are instances whose recordings are complete.
+-- case with a line check in edition 2, one with gates in edition 3 and one from an opening without stocks are instances whose recordings are
+-- complete.
 use mathlib.Core.Path.{_≡_, refl, ap}
 use mathlib.Core.List.{List, [], _∷_}
 use Prim.Native.Nat.{ℕ}
@@ -13,7 +14,7 @@ use Rattle.local.specs.Requesting.{requestedBy, startedBy}
 use Rattle.channel.specs.Words.{itemOf, messageWord}
 use Rattle.channel.specs.Channels.{isChannel, pushed, movedDown, popped, allFree, requestedAll}
 use Rattle.run.specs.Calls.{isPair, answer}
-use Rattle.run.specs.Claims.{AllTyped}
+use Rattle.run.specs.Claims.{AllTyped, filled}
 use Rattle.run.specs.Lists.{after, acceptedCalls}
 use Rattle.run.specs.Opening.{termsAs, openingAs, openingOf, openedRun, openCall}
 use Rattle.run.specs.State.{localSound, localsSound, channelSound, channelsSound, stocks, carsOnChannels, partsSound, hasStarted}
@@ -49,7 +50,7 @@ recordedBy o cs lent = recordCall (after cs (openCall o .run)) (replicate lent 0
 
 recorded-cut : (o : Opening) (cs : List SiteCall) (lent : ℕ) → AllTyped cs → openCall o .refusal ≡ 0
     → recordedBy o cs lent .answer .refusal ≡ 0
-    → Cut (openingOf o) (acceptedCalls cs (openCall o .run)) (shownIn (take (recordedBy o cs lent .answer .written) (recordedBy o cs lent .bytes)))
+    → Cut (openingOf (filled o)) (acceptedCalls cs (openCall o .run)) (shownIn (take (recordedBy o cs lent .answer .written) (recordedBy o cs lent .bytes)))
 recorded-cut o cs lent typed opened answered =
     let r = after cs (openCall o .run) in
     let x = recordedBy o cs lent in
@@ -137,3 +138,32 @@ shownGates = refl
 pub case-gates : Cut (openingOf openingGates) (acceptedCalls callsGates (openCall openingGates .run))
     (shownIn (take (recordedBy openingGates callsGates 14 .answer .written) (recordedBy openingGates callsGates 14 .bytes)))
 case-gates = recorded-cut openingGates callsGates 14 typedGates openedGates (ap (λ (x : RecordOutput). x .answer .refusal) shownGates)
+
+-- An empty car park, opened without stocks in edition 3, the calls of the journal "68 07 00 00 00 00 00 00 C0 05 01 02 41 00 08 01 88 00 48 00
+-- 48 00" behind a message of a car that zone 3 does not have. Cars drive in at zone 1 and go on to zone 2, which starts.
+abbrev pub openingEmpty : Opening
+openingEmpty = openingAs (termsAs 3 3) []
+
+abbrev pub callsEmpty : List SiteCall
+callsEmpty =
+    Send 3 1 1 ∷ Gate In 1 5 ∷ Send 1 2 2 ∷ Receive 1 2 ∷ Send 2 1 1 ∷ Start 2 ∷ Receive 2 1 ∷ Receive 2 1 ∷ []
+
+typedEmpty : AllTyped callsEmpty
+typedEmpty = (omega arith, (omega arith, (omega arith, (tt, (omega arith, (tt, (tt, (tt, tt))))))))
+
+openedEmpty : openCall openingEmpty .refusal ≡ 0
+unfolding openCall isEdition isCount
+openedEmpty = refl
+
+-- "68 00 80 03 00 04 80 02 00 01 00 00 00 00": zone 3 is shown with its opening stock, 0. The total is that of the entry, 5.
+shownEmpty : recordedBy openingEmpty callsEmpty 14
+    ≡ record {
+      answer = record { refusal = 0; written = 14; total = 5 };
+      bytes = 104 ∷ 0 ∷ 128 ∷ 3 ∷ 0 ∷ 4 ∷ 128 ∷ 2 ∷ 0 ∷ 1 ∷ 0 ∷ 0 ∷ 0 ∷ 0 ∷ [];
+    }
+unfolding isEdition isTraffic hasGates has members isCount isOn requestedBy startedBy itemOf messageWord pushed movedDown popped allFree requestedAll isChannel localSound localsSound channelSound channelsSound stocks carsOnChannels partsSound hasStarted openedRun isPair openCall answer journalBytes decode readCall sameLocal sameChannel sameZones sameChannels sameState replaysTo isReplayed noRequests recordCall itemWords recordingBytes
+shownEmpty = refl
+
+pub case-empty : Cut (openingOf (openingAs (termsAs 3 3) (0 ∷ 0 ∷ 0 ∷ []))) (acceptedCalls callsEmpty (openCall openingEmpty .run))
+    (shownIn (take (recordedBy openingEmpty callsEmpty 14 .answer .written) (recordedBy openingEmpty callsEmpty 14 .bytes)))
+case-empty = recorded-cut openingEmpty callsEmpty 14 typedEmpty openedEmpty (ap (λ (x : RecordOutput). x .answer .refusal) shownEmpty)

@@ -12,12 +12,13 @@ use lib.ListN.{length, take, drop}
 use Rattle.rules.specs.Change.{cons-if}
 use Rattle.rules.specs.Below.{sum}
 use Rattle.rules.specs.Cut.{Cut, Snapshot, run, moves, present, snapshot}
+use Rattle.rules.specs.Opening as rules
 use Rattle.rules.specs.Park.{inside, total, entries, exits}
 use Rattle.rules.specs.Questions.{Among}
 use Rattle.rules.specs.Site.{Site, Call, openS}
 use Rattle.rules.specs.Zone.{isPermanent, opened}
 use Rattle.run.specs.Calls.{recordOf, answer}
-use Rattle.run.specs.Claims.{AllTyped, WholeRun, acceptedRecords}
+use Rattle.run.specs.Claims.{AllTyped, WholeRun, acceptedRecords, filled}
 use Rattle.run.specs.Lists.{isAccepted, callOf, after, acceptedCalls}
 use Rattle.run.specs.Model.{siteOf}
 use Rattle.run.specs.Opening.{openingOf, openCall}
@@ -26,6 +27,7 @@ use Rattle.run.proofs.BelowLaws.{any-none}
 use Rattle.run.specs.declared.Opening.{Opening}
 use Rattle.run.specs.declared.Run.{Run}
 use Rattle.run.specs.declared.SiteCall.{SiteCall}
+use Rattle.run.proofs.Filled.{opening-filled}
 use Rattle.run.proofs.Whole.{open-whole, after-whole}
 use Rattle.journal.specs.Format.{openedWith, openingStocks, recordWords, consCall}
 use Rattle.journal.specs.Format as format
@@ -171,14 +173,14 @@ module _ (o : Opening) (opened : openCall o .refusal ≡ 0) (cs : List SiteCall)
   whole : WholeRun last
   whole = after-whole cs (openCall o .run) (open-whole o)
 
-  opening-is : openedWith last ≡ o
+  opening-is : openedWith last ≡ filled o
   opening-is = true-tells o cs opened .opening
 
   calls-are : ruleCallsIn (recordWords last) ≡ calls
   calls-are = ap ruleCallsIn (true-tells o cs opened .records) ∙ calls-decoded cs (openCall o .run) typed
 
   pub true-demand : (lent : List ℕ)
-      → Demand o (acceptedCalls cs (openCall o .run)) (after cs (openCall o .run)) lent
+      → Demand (filled o) (acceptedCalls cs (openCall o .run)) (after cs (openCall o .run)) lent
       (recordCall (after cs (openCall o .run)) lent .answer) (recordCall (after cs (openCall o .run)) lent .bytes)
   true-demand lent =
       let done = recordCall last lent in
@@ -193,3 +195,4 @@ module _ (o : Opening) (opened : openCall o .refusal ≡ 0) (cs : List SiteCall)
   true-shown lent z =
       replayed-shown last whole (true-replayed o cs opened typed) lent z
       ∙ ap₂ (λ (x : Opening) (y : List Call). snapshot (openingOf x) y) opening-is calls-are
+      ∙ ap (λ (x : rules.Opening). snapshot x calls) (opening-filled o)

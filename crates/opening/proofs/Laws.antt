@@ -1,12 +1,21 @@
 -- Stocks: a sum one step longer, and a list of 8 by its indices.
 use mathlib.Core.Path.{_≡_, refl, sym, _∙_, ap}
+use mathlib.Core.Bool.{_||_}
 use mathlib.Core.List.{List, [], _∷_}
 use Prim.Native.Nat.{ℕ, zero, suc, _+_, _≤_}
 use native.Mathlib.Omega.{arith}
+use borrow.Author.Tests.{ne-eqb}
+use lib.Dec.{eqb}
 use lib.ListN.{length, getD, take}
 use lib.Seq.{ext-getD, take-all}
 use Rattle.rules.specs.Below.{listBelow, sum}
+use Rattle.run.specs.Opening.{isStockList}
 use Rattle.run.proofs.BelowLaws.{list-at}
+
+-- The test of question 3 on a list's length.
+pub stock-list : (count : ℕ) (stocks : List ℕ) → eqb (length stocks) 0 || eqb (length stocks) count ≡ isStockList count stocks
+stock-list count [] = refl
+stock-list count (stock ∷ stocks) = rw (ne-eqb (length (stock ∷ stocks)) 0 (λ e. omega arith)) refl
 
 -- One stock more; behind the end there is 0.
 pub sum-more : (xs : List ℕ) (i : ℕ) → sum (take (suc i) xs) ≡ sum (take i xs) + getD xs i 0

@@ -8,7 +8,7 @@ use native.Mathlib.Omega.{arith}
 use native.Mathlib.Nat.{not-suc-le-zero}
 use lib.Dec.{leb, ltb, eqb}
 use lib.ListN.{length, drop, getD, length-append, List·getD-append, List·getD-eq-default}
-use lib.Seq.{drop-nil, getD-append-add}
+use lib.Seq.{drop-nil, getD-append-add, length-take-le}
 use borrow.Author.Tests.{ltb-true, ltb-false, le-ltb, le-leb, lt-leb, ne-eqb}
 use Rattle.rules.specs.Change.{cons-if}
 use Rattle.rules.specs.Below.{sum, sumBelow}
@@ -30,7 +30,7 @@ use Rattle.run.specs.declared.Answer.{Answer}
 use Rattle.run.specs.declared.Run.{Run}
 use Rattle.run.proofs.BelowLaws.{split, sum-end, sum-list}
 use Rattle.run.proofs.IndexLaws.{sum-zone}
-use Rattle.run.proofs.Outcome.{Pair, Sited, sited, passed, is-open}
+use Rattle.run.proofs.Outcome.{Pair, Sited, sited, passed}
 use Rattle.run.proofs.Parts.{onSite, between, on-site}
 use Rattle.words.specs.Bytes.{wordAt, wordsFrom}
 use Rattle.journal.specs.Format.{openedWith, openingStocks, headerOf}
@@ -379,7 +379,7 @@ module _ (r : Run) (w : WholeRun r) (e : isReplayed r ≡ true) where
   all-sited = calls-sited (chain (wordsAt r) 0 0 (firstRun r) (reached r w e .accepted))
 
   lengths : length (openingStocks r) ≡ countOf (r .head)
-  lengths = is-open (openedWith r) (reached r w e .opened) .fits .lengths
+  lengths = length-take-le (countOf (r .head)) (r .head .opening .stocks) (omega (arith, w .opening, run-sound r w e .most))
 
   snapshot-fits : Fits (countOf (r .head)) (snapshotOf r)
   snapshot-fits =

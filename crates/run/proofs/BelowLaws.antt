@@ -7,7 +7,7 @@ use Prim.Native.Nat.{ℕ, zero, suc, _+_, _<_, _≤_}
 use native.Mathlib.Numerals.{add-one}
 use native.Mathlib.Omega.{arith}
 use native.Mathlib.Nat.{not-suc-le-zero, add-zero, add-suc}
-use lib.ListN.{length, getD, length-append, List·getD-append}
+use lib.ListN.{length, getD, replicate, length-append, List·getD-append}
 use lib.Seq.{getD-at}
 use Rattle.rules.proofs.Tests.{and-left, and-right, or-off-left, or-off-right, Same, same?}
 use Rattle.rules.specs.Below.{allBelow, anyBelow, sumBelow, listBelow, sum}
@@ -52,6 +52,16 @@ front (suc n) f = let q = front n f in omega arith
 pub sum-list : (xs : List ℕ) → sumBelow (length xs) (λ i. getD xs i 0) ≡ sum xs
 sum-list [] = refl
 sum-list (x ∷ xs) = front (length xs) (λ i. getD (x ∷ xs) i 0) ∙ ap (λ (n : ℕ). x + n) (sum-list xs)
+
+-- A row of zeros: each is 0, and so is their sum.
+pub none-at : (n k : ℕ) → getD {A = ℕ} (replicate n 0) k 0 ≡ 0
+none-at zero k = refl
+none-at (suc n) zero = refl
+none-at (suc n) (suc k) = none-at n k
+
+pub sum-zeros : (n : ℕ) → sum (replicate n 0) ≡ 0
+sum-zeros zero = refl
+sum-zeros (suc n) = let h = sum-zeros n in omega arith
 
 pub length-below : {A : Type 0} (n : ℕ) (f : ℕ → A) → length (listBelow n f) ≡ n
 length-below zero f = refl

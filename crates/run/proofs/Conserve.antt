@@ -27,10 +27,10 @@ use Rattle.run.specs.Lists.{callOf, isAccepted, after}
 use Rattle.run.specs.Claims.{WholeRun, Typed, AllTyped, entered, left}
 use Rattle.run.specs.declared.Run.{Run}
 use Rattle.run.specs.declared.Answer.{Answer}
+use Rattle.run.proofs.Filled.{stocks-sum}
 use Rattle.run.proofs.Outcome.{Pair, Sited, sited, Passed, Refused, outcome, is-open, Fitting}
 use Rattle.rules.proofs.Editions.{sent-stock, received-stock}
 use Rattle.rules.proofs.Sums.{sum-same, sum-change}
-use Rattle.run.proofs.BelowLaws.{sum-list}
 use Rattle.run.proofs.Parts.{stocksS, carsS, stocks-are, cars-are, parts}
 use Rattle.run.proofs.Whole.{call-whole, open-whole}
 use Rattle.run.proofs.Refine.{refine, opened-site}
@@ -197,7 +197,8 @@ pub opened-cars : (o : Opening) → Fitting o → allCars (openedRun o) ≡ sum 
 unfolding openedRun carsS
 opened-cars o f =
     cars-at (openedRun o) ∙ ap (total (o .terms .count)) (opened-site o f)
-    ∙ rw (← f .lengths) (ap (λ (n : ℕ). n + 0) (sum-list (o .stocks)) ∙ omega arith)
+    ∙ ap (λ (n : ℕ). n + 0) (stocks-sum o (f .listed))
+    ∙ omega arith
 
 -- From an accepted opening, after any list of calls.
 pub conserve : (o : Opening) (cs : List SiteCall) → openCall o .refusal ≡ 0 → AllTyped cs

@@ -67,6 +67,7 @@ Refused = (answer (Receive 3 1) (after full three) .refusal ≡ 10)
 abbrev Numbers : Type 0
 Numbers = (openCall (openingAs (termsAs 0 9) []) .refusal ≡ 15) × (openCall (openingAs (termsAs 4 9) []) .refusal ≡ 15)
     × (openCall (openingAs (termsAs 2 9) []) .refusal ≡ 2) × (openCall (openingAs (termsAs 1 2) (65536 ∷ [])) .refusal ≡ 3)
+    × (openCall (openingAs (termsAs 1 3) (0 ∷ [])) .refusal ≡ 3) × (openCall (openingAs (termsAs 1 3) []) .refusal ≡ 0)
     × (openCall (openingAs (termsAs 2 2) (65535 ∷ 1 ∷ [])) .refusal ≡ 4)
     × (answer (Send 1 1 0) three .refusal ≡ 5) × (answer (Send 1 2 11) (after full three) .refusal ≡ 7)
     × (answer (Send 1 2 0) (after full three) .refusal ≡ 8) × (answer (Receive 1 2) three .refusal ≡ 9)
@@ -113,4 +114,4 @@ Remaining = (answer (Receive 1 2) (after (Send 1 2 5 ∷ Send 1 2 4 ∷ []) thre
 
 pub computed : Flag × First × Sent × Refused × Numbers × Checks × Gates × Remaining
 unfolding isEdition isTraffic hasGates isCount isOn has members requestedBy startedBy itemOf messageWord pushed movedDown popped allFree requestedAll isChannel localSound localsSound channelSound channelsSound stocks carsOnChannels partsSound hasStarted openedRun isPair openCall answer
-computed = ((refl, refl, refl, refl, refl), (refl, refl), (refl, refl, refl), (refl, refl), (refl, refl, refl, refl, refl, refl, refl, refl, refl, refl), ((refl, refl, refl, refl, refl), (refl, refl, refl, refl, refl)), (refl, refl, refl, refl, refl, refl, refl, refl, refl, refl, refl, refl), (refl, refl, refl, refl))
+computed = ((refl, refl, refl, refl, refl), (refl, refl), (refl, refl, refl), (refl, refl), (refl, refl, refl, refl, refl, refl, refl, refl, refl, refl, refl, refl), ((refl, refl, refl, refl, refl), (refl, refl, refl, refl, refl)), (refl, refl, refl, refl, refl, refl, refl, refl, refl, refl, refl, refl), (refl, refl, refl, refl))

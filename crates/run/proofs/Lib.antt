@@ -1,7 +1,8 @@
+pub mod BelowLaws
+pub mod Filled
 pub mod Outcome
 pub mod Answers
 pub mod Whole
-pub mod BelowLaws
 pub mod IndexLaws
 pub mod Parts
 pub mod SetBounds

@@ -5,7 +5,6 @@ use mathlib.Core.Logic.{_≢_, _⊎_, inl, inr}
 use Prim.Native.Nat.{ℕ, _+_, _<_, _≤_}
 use native.Mathlib.Omega.{arith}
 use lib.Dec.{eqb, leb}
-use lib.ListN.{length}
 use borrow.Author.Tests.{leb-true, ltb-true, eqb-true, eqb-false, not-true, ne-eqb, le-leb}
 use Rattle.rules.specs.Edition.{isEdition}
 use Rattle.rules.specs.Limits.{mostCars, mostRecords, places}
@@ -27,7 +26,7 @@ use Rattle.run.specs.declared.SiteCall.{SiteCall}
 use Rattle.run.specs.declared.SiteCall.the-variants.{Receive, Send, Start, Gate}
 use Rattle.rules.specs.declared.Direction.the-variants.{In, Out}
 use Rattle.run.specs.declared.Opening.{Opening}
-use Rattle.run.specs.Opening.{fallback, openCall, openedRun, openQuestions}
+use Rattle.run.specs.Opening.{fallback, isStockList, openCall, openedRun, openQuestions}
 use Rattle.rules.proofs.AskLaws.{not-among, lacks, AllYes, numbers, yes-both, ask-cases}
 
 -- What the receipt of the first item on the channel from a to b, and what a start by a, makes of the zone of a run that acts.
@@ -222,7 +221,7 @@ pub record Fitting (o : Opening) : Type 0 where
   pub edition : isEdition (o .terms .edition) ≡ true
   pub fewest : 2 ≤ o .terms .count
   pub most : o .terms .count ≤ 8
-  pub lengths : length (o .stocks) ≡ o .terms .count
+  pub listed : isStockList (o .terms .count) (o .stocks) ≡ true
   pub cars : sum (o .stocks) ≤ mostCars
 
 pub record Opened (o : Opening) : Type 0 where
@@ -247,7 +246,7 @@ open-outcome o = go (ask-cases (openQuestions o) (refused (openedRun fallback)) 
             edition = h .0 .0;
             fewest = leb-true 2 (o .terms .count) (and-left (leb 2 (o .terms .count)) (leb (o .terms .count) 8) (h .0 .1 .0));
             most = leb-true (o .terms .count) 8 (and-right (leb 2 (o .terms .count)) (leb (o .terms .count) 8) (h .0 .1 .0));
-            lengths = eqb-true _ _ (h .0 .1 .1 .0);
+            listed = h .0 .1 .1 .0;
             cars = leb-true _ _ (h .0 .1 .1 .1 .0);
           };
           result = h .1;
@@ -264,4 +263,4 @@ is-open o e = go (open-outcome o)
 
 -- The opening of the run that a refused opening hands back.
 pub fallback-fits : Fitting fallback
-fallback-fits = record { edition = first-edition; fewest = omega arith; most = omega arith; lengths = refl; cars = omega arith }
+fallback-fits = record { edition = first-edition; fewest = omega arith; most = omega arith; listed = refl; cars = omega arith }

@@ -6,7 +6,7 @@ use mathlib.Core.List.{List, [], _∷_, tail}
 use Prim.Native.Nat.{ℕ, zero, suc, _^_, _≤_, _<_, _+_}
 use native.Mathlib.Omega.{arith}
 use lib.Dec.{eqb, ltb}
-use lib.ListN.{length, getD, set, replicate, List·getD-eq-default}
+use lib.ListN.{length, getD, set, List·getD-eq-default}
 use lib.Seq.{getD-set-same, getD-set-other}
 use borrow.Author.Tests.{eqb-true, lt-ltb, ne-eqb, ltb-true, ltb-false}
 use Rattle.rules.specs.Change.{on, join}
@@ -32,9 +32,10 @@ use Rattle.run.specs.Lists.{callOf, isAccepted}
 use Rattle.run.specs.Claims.{WholeRun, Typed}
 use Rattle.run.specs.declared.Run.{Run}
 use Rattle.run.specs.declared.Answer.{Answer}
+use Rattle.run.proofs.Filled.{short-list}
 use Rattle.run.proofs.Outcome.{is-open, Pair, Asks, passed, Fitting, startBy}
 use Rattle.run.proofs.Whole.{open-whole}
-use Rattle.run.proofs.BelowLaws.{any-none, list-at}
+use Rattle.run.proofs.BelowLaws.{any-none, list-at, none-at}
 use Rattle.run.proofs.Parts.{onSite, between, on-site, zone-on, channel-on, SoundRun, parts}
 use Rattle.run.proofs.SetBounds.{has-lt, targets-deps, targets-other}
 use Rattle.run.specs.declared.SiteCall.{SiteCall}
@@ -281,11 +282,6 @@ refine c r w t e =
     (granted-site r w (parts r (p .sound)) c t (p .asks))
 
 -- The run of an opening stands for the rules' site of that opening.
-pub none-at : (n k : ℕ) → getD {A = ℕ} (replicate n 0) k 0 ≡ 0
-none-at zero k = refl
-none-at (suc n) zero = refl
-none-at (suc n) (suc k) = none-at n k
-
 pub opened-site : (o : Opening) → Fitting o → siteOf (openedRun o) ≡ openS (openingOf o)
 unfolding openedRun
 opened-site o f = site≡ _ _ refl (λ k. zone k (ltb k (o .terms .count)) refl) (λ i j. channel i j (onSite (o .terms .count) i j))
@@ -297,7 +293,8 @@ opened-site o f = site≡ _ _ refl (λ k. zone k (ltb k (o .terms .count)) refl)
         list-at 8 (λ i. opened i (stockAt o i)) noLocal k (omega (arith, f .most))
     zone k false e =
         let b = ltb-false k (o .terms .count) e in
-        ap (opened k) (sym (List·getD-eq-default (o .stocks) 0 (omega (arith, f .lengths))))
+        let h = short-list (o .terms .count) (o .stocks) (f .listed) in
+        ap (opened k) (sym (List·getD-eq-default (o .stocks) 0 (omega arith)))
 
     channel : (i j : ℕ) (p : Bool) → cond p (itemsOn noChannels (channelIndex i j)) [] ≡ []
     channel i j true = rw (none-at 64 (channelIndex i j))

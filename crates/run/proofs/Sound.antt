@@ -34,11 +34,11 @@ use Rattle.run.specs.Claims.{WholeRun, Typed, AllTyped}
 use Rattle.run.specs.declared.Run.{Run}
 use Rattle.run.specs.declared.Answer.{Answer}
 use Rattle.run.proofs.Outcome.{Sited, sited, Asks, Passed, Refused, outcome, Opened, NotOpened, open-outcome, Fitting, fallback-fits}
-use Rattle.run.proofs.BelowLaws.{split}
+use Rattle.run.proofs.BelowLaws.{split, none-at}
 use Rattle.run.proofs.Parts.{onSite, between, on-site, SoundRun, parts, sound}
 use Rattle.run.proofs.SetBounds.{carried-lt}
 use Rattle.run.proofs.Whole.{call-whole, open-whole}
-use Rattle.run.proofs.Refine.{popped-free, refine, none-at, opened-site}
+use Rattle.run.proofs.Refine.{popped-free, refine, opened-site}
 use Rattle.run.proofs.Conserve.{cars-at, granted-conserves, opened-cars}
 use Rattle.run.specs.declared.SiteCall.{SiteCall}
 use Rattle.run.specs.declared.SiteCall.the-variants.{Receive, Send, Start, Gate}

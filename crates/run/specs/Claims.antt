@@ -4,7 +4,7 @@ use mathlib.Core.Bool.{true, false, cond}
 use mathlib.Core.List.{List, [], _∷_, _++_}
 use Prim.Native.Nat.{ℕ, _+_, _≤_, _<_}
 use lib.Dec.{leb, ltb}
-use lib.ListN.{length, take, getD}
+use lib.ListN.{length, take, getD, replicate}
 use Rattle.rules.specs.Change.{cons-if}
 use Rattle.rules.specs.Limits.{mostZones, mostRecords, places}
 use Rattle.rules.specs.Edition.{hasGates}
@@ -15,7 +15,9 @@ use Rattle.rules.specs.declared.Direction.the-variants.{In, Out}
 use Rattle.channel.specs.Channels.{Whole}
 use Rattle.run.specs.State.{locals}
 use Rattle.run.specs.Calls.{isPair, recordOf, ownGateQuestions, answer}
+use Rattle.run.specs.Opening.{openingAs}
 use Rattle.run.specs.Lists.{isAccepted, callOf, after}
+use Rattle.run.specs.declared.Opening.{Opening}
 use Rattle.run.specs.declared.Run.{Run}
 use Rattle.run.specs.declared.SiteCall.{SiteCall}
 use Rattle.run.specs.declared.SiteCall.the-variants.{Send, Receive, Start, Gate}
@@ -26,6 +28,14 @@ pub record WholeRun (r : Run) : Type 0 where
   pub opening : length (r .head .opening .stocks) ≡ mostZones
   pub channels : Whole (r .channels)
   pub journal : length (r .journal) ≡ mostRecords
+
+-- "An opening with an empty stock list now means stock 0 in every zone": the list that is meant, and the opening with that list.
+abbrev pub filledList : (count : ℕ) → List ℕ → List ℕ
+filledList count [] = replicate count 0
+filledList count (stock ∷ stocks) = stock ∷ stocks
+
+abbrev pub filled : Opening → Opening
+filled o = openingAs (o .terms) (filledList (o .terms .count) (o .stocks))
 
 -- The cars of a call are a u8: true of every argument of the type.
 abbrev pub Typed : SiteCall → Type 0

@@ -1,4 +1,5 @@
 -- Opening a site: what it is opened with is one value, from the caller's terms and stocks down to the rules' opening.
+use mathlib.Core.Bool.{Bool, true}
 use mathlib.Core.List.{List, [], _∷_}
 use Prim.Native.Nat.{ℕ}
 use lib.Dec.{leb, eqb}
@@ -26,7 +27,7 @@ termsAs edition count = record { edition = edition; count = count }
 abbrev pub openingAs : Terms → List ℕ → Opening
 openingAs terms stocks = record { terms = terms; stocks = stocks }
 
--- The stock of the zone at an index: 0 behind the end of the list.
+-- The stock of the zone at an index: 0 behind the end of the list, so that an empty one "means stock 0 in every zone".
 abbrev pub stockAt : Opening → ℕ → ℕ
 stockAt o i = getD (o .stocks) i 0
 
@@ -51,12 +52,17 @@ firstRun h = runAs h noChannels (replicate mostRecords 0)
 unfoldable pub openedRun : Opening → Run
 openedRun o = firstRun (openedHead o)
 
+-- Question 3: "Are there as many stocks as zones?" And of an empty list "question 3 passes it".
+abbrev pub isStockList : (count : ℕ) → List ℕ → Bool
+isStockList count [] = true
+isStockList count (stock ∷ stocks) = eqb (length (stock ∷ stocks)) count
+
 -- "Open: 2, 3, 4.", and "15, for the edition named, comes first in opening".
 abbrev pub openQuestions : Opening → List Question
 openQuestions o =
     question 15 (isEdition (o .terms .edition))
     ∷ question 2 (isCount (o .terms .count))
-    ∷ question 3 (eqb (length (o .stocks)) (o .terms .count))
+    ∷ question 3 (isStockList (o .terms .count) (o .stocks))
     ∷ question 4 (leb (sum (o .stocks)) mostCars)
     ∷ []
 

@@ -7,7 +7,7 @@ use mathlib.Core.List.{List, [], _∷_}
 use Prim.Native.Nat.{ℕ, _<_}
 use lib.Dec.{leb, eqb}
 use borrow.Author.Tests.{eqb-true, eqb-false}
-use lib.ListN.{length, getD}
+use lib.ListN.{length, getD, replicate}
 use lib.Seq.{ext-getD}
 use Rattle.rules.specs.declared.Checkpoint.{Checkpoint}
 use Rattle.rules.specs.declared.Checkpoint.the-variants.{None, Mutable, Permanent}
@@ -18,6 +18,7 @@ use Rattle.run.specs.State.{locals, noLocal}
 use Rattle.run.specs.Calls.{answer}
 use Rattle.run.specs.declared.Run.{Run}
 use Rattle.run.proofs.BelowLaws.{all-of, length-below, list-at}
+use Rattle.run.proofs.Filled.{empty-zeros}
 use Rattle.run.proofs.Outcome.{kept}
 use Rattle.run.proofs.Remaining.{refused-none, open-none}
 use Rattle.run.proofs.Whole.{call-whole, after-whole, open-whole}
@@ -103,6 +104,10 @@ call-plain-none c p = go (areKinds (p .head .zones)) (eqb (answer c (runOf p) .r
 
 pub open-plain-none : (edition count : ℕ) (stocks : List ℕ) → openPlain edition count stocks .remaining ≡ 0
 open-plain-none edition count stocks = open-none (openingAs (termsAs edition count) stocks)
+
+-- Opening with no stocks is opening with as many zeros as zones.
+pub empty-plain : (edition count : ℕ) → openPlain edition count [] ≡ openPlain edition count (replicate count 0)
+empty-plain edition count = ap plainAnswer (empty-zeros (termsAs edition count))
 
 pub read-plain-remaining : (bytes : List ℕ) → readPlain bytes .remaining ≡ readCall bytes .remaining
 read-plain-remaining bytes = refl
