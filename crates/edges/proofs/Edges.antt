@@ -33,6 +33,7 @@ use Rattle.edges.specs.Editions.{editions}
 use Rattle.edges.specs.Gates.{gates}
 use Rattle.edges.specs.Searches.{searches}
 use Rattle.edges.specs.Remaining.{remaining}
+use Rattle.edges.specs.Empty.{empties}
 use Rattle.edges.specs.Edges.{firstEdges, table}
 
 -- What the rows are computed by, named once: `unfolding computed` unfolds all of it.
@@ -40,7 +41,7 @@ computed : List Row → List Reply
 unfolding isEdition isTraffic hasGates isCount isOn has members requestedBy startedBy itemOf messageWord pushed movedDown popped allFree highestFull requestedAll isPair openCall answer isChannel localSound localsSound channelSound channelsSound stocks carsOnChannels partsSound hasStarted openedRun journalBytes decode readCall sameLocal sameChannel sameZones sameChannels sameState replaysTo isReplayed writeCall itemWords recordingBytes noRequests recordCall recordJournal digitCode decimalText isOther isZoneSound openZone sendStep receiveStep requestStep startStep gateStep reportText
 computed rows = answers rows
 
--- The table in five parts: as a whole it is beyond the 50,000,000 steps that one proof may take.
+-- The table in six parts: as a whole it is beyond the 50,000,000 steps that one proof may take.
 first-edges : answers firstEdges ≡ expectations firstEdges
 unfolding computed
 first-edges = refl
@@ -61,6 +62,10 @@ remaining-edges : answers remaining ≡ expectations remaining
 unfolding computed
 remaining-edges = refl
 
+empty-edges : answers empties ≡ expectations empties
+unfolding computed
+empty-edges = refl
+
 -- Where two lists of rows answer as expected, so do both together.
 answers-all : (xs ys : List Row) → answers (xs ++ ys) ≡ answers xs ++ answers ys
 answers-all [] ys = refl
@@ -75,6 +80,7 @@ joined xs ys e f = rw (answers-all xs ys, expectations-all xs ys, e, f) refl
 
 pub edges : answers table ≡ expectations table
 edges =
-    joined firstEdges (editions ++ gates ++ searches ++ remaining) first-edges
-    (joined editions (gates ++ searches ++ remaining) edition-edges
-    (joined gates (searches ++ remaining) gate-edges (joined searches remaining search-edges remaining-edges)))
+    joined firstEdges (editions ++ gates ++ searches ++ remaining ++ empties) first-edges
+    (joined editions (gates ++ searches ++ remaining ++ empties) edition-edges
+    (joined gates (searches ++ remaining ++ empties) gate-edges
+    (joined searches (remaining ++ empties) search-edges (joined remaining empties remaining-edges empty-edges))))

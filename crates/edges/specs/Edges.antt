@@ -18,6 +18,7 @@ use Rattle.edges.specs.Editions.{lent, editions}
 use Rattle.edges.specs.Gates.{gates}
 use Rattle.edges.specs.Searches.{searches}
 use Rattle.edges.specs.Remaining.{remaining}
+use Rattle.edges.specs.Empty.{empties}
 use Rattle.edges.specs.Rows.{
   Row,
   partRow,
@@ -506,4 +507,4 @@ firstEdges =
     ++ journals ++ states
 
 abbrev pub table : List Row
-table = firstEdges ++ editions ++ gates ++ searches ++ remaining
+table = firstEdges ++ editions ++ gates ++ searches ++ remaining ++ empties

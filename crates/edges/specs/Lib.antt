@@ -3,4 +3,5 @@ pub mod Editions
 pub mod Gates
 pub mod Searches
 pub mod Remaining
+pub mod Empty
 pub mod Edges
