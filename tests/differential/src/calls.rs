@@ -60,14 +60,15 @@ fn opening(counts: &mut Counts, random: &mut Random, edition: u8) -> Result<(), 
         0 => random.within(0, 255),
         _ => random.within(0, 10),
     };
-    let length = match random.below(4) {
-        0 => random.within(0, 12),
+    let length = match random.below(8) {
+        0 | 1 => random.within(0, 12),
+        2 => 0,
         _ => count.min(40),
     };
-    let mut stocks: Vec<u16> = (0..length)
-        .map(|_| random.within(0, 65_535 / length.max(1)) as u16)
-        .collect();
-    if length > 0 && random.chance(50) {
+    let zeros = random.chance(if length == count { 10 } else { 60 });
+    let most = if zeros { 0 } else { 65_535 / length.max(1) };
+    let mut stocks: Vec<u16> = (0..length).map(|_| random.within(0, most) as u16).collect();
+    if length > 0 && !zeros && random.chance(50) {
         // The sum is brought to the largest that is accepted, or one above.
         let rest: u32 = stocks[1..].iter().map(|&stock| u32::from(stock)).sum();
         stocks[0] = (65_535 - rest) as u16;

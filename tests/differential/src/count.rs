@@ -263,6 +263,40 @@ impl Remaining {
     }
 }
 
+/// The numbers that an opening without stocks gives under each heading.
+pub const EMPTY: [&[u8]; HEADINGS.len()] = [&[0, 2], &[0, 2], &[0, 2], &[15]];
+
+/// What was met of openings without stocks.
+#[derive(Clone, Debug, Default, PartialEq, Eq)]
+pub struct Empty {
+    /// Times by heading, then by refusal number.
+    pub times: [[u64; HIGHEST + 1]; HEADINGS.len()],
+    /// By edition: openings with zeros alone, not as many as zones, refused with 3.
+    pub zeros: [u64; EDITIONS.len()],
+    /// By edition: complete recordings, each of a list of its own, that such an opening begins.
+    pub complete: [u64; EDITIONS.len()],
+}
+
+impl Empty {
+    /// What must have been met, by name, with the times and how often it is needed.
+    fn others(&self) -> Vec<(String, u64, u64)> {
+        let mut others = Vec::new();
+        for (place, heading) in HEADINGS.iter().enumerate() {
+            for &number in EMPTY[place] {
+                let name = format!("openings without stocks answering {number}, {heading}");
+                others.push((name, self.times[place][usize::from(number)], LEAST_EMPTY));
+            }
+        }
+        for (place, heading) in HEADINGS.iter().enumerate().take(EDITIONS.len()) {
+            let name = format!("openings with too few or too many zeros, {heading}");
+            others.push((name, self.zeros[place], LEAST_EMPTY));
+            let name = format!("complete recordings from no stocks, {heading}");
+            others.push((name, self.complete[place], LEAST_EMPTY));
+        }
+        others
+    }
+}
+
 /// How often each number of each call must be met under each heading.
 pub const LEAST_ANSWERS: u64 = 100;
 /// How often each kind of hand-over of 0 cars must be taken in each edition.
@@ -272,6 +306,8 @@ pub const LEAST_GATES: u64 = 100;
 /// How often each number of items must remain at a receipt of each edition, and what else is counted of
 /// them must be met.
 pub const LEAST_REMAINING: u64 = 100;
+/// How often each of what is counted of openings without stocks must be met.
+pub const LEAST_EMPTY: u64 = 100;
 /// How many complete recordings of each edition must have a provisional mark turned firm.
 pub const LEAST_TURNED: u64 = 1_000;
 /// How many complete recordings of each edition must have a line above 16.
@@ -322,6 +358,7 @@ pub struct Counts {
     pub checks: [[u64; CHECKS]; EDITIONS.len()],
     pub gates: Gates,
     pub remaining: Remaining,
+    pub empty: Empty,
     /// By edition: complete recordings, each of a list of its own, with a provisional mark turned firm.
     pub turned: [u64; EDITIONS.len()],
     /// By edition: complete recordings, each of a list of its own, with a recorded line above 16.
@@ -369,6 +406,16 @@ impl Counts {
         }
         self.times[heading][entry as usize][usize::from(refusal)] += 1;
         Ok(())
+    }
+
+    /// Counts an opening by its stocks and its number.
+    pub fn opening(&mut self, edition: u32, stocks: &[u16], refusal: u8) {
+        let place = heading(edition);
+        if stocks.is_empty() {
+            self.empty.times[place][usize::from(refusal)] += 1;
+        } else if refusal == 3 && stocks.iter().all(|&stock| stock == 0) {
+            self.empty.zeros[place] += 1;
+        }
     }
 
     /// Counts a hand-over of 0 cars that was taken.
@@ -419,6 +466,11 @@ impl Counts {
     /// Counts a reading that a record made end, by how many items the last receipt before it left.
     pub fn refused_reading(&mut self, left: usize) {
         self.remaining.refused += u64::from(left != 0);
+    }
+
+    /// Counts a complete recording that an opening without stocks began.
+    pub fn complete_from_empty(&mut self, edition: u32) {
+        self.empty.complete[heading(edition)] += 1;
     }
 
     /// Counts a complete recording with its total and that of its opening.
@@ -475,6 +527,7 @@ impl Counts {
         }
         others.extend(self.gates.others());
         others.extend(self.remaining.others());
+        others.extend(self.empty.others());
         others
     }
 

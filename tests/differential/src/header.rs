@@ -34,10 +34,15 @@ mod raw {
     }
 }
 
-// Each pointer is that of a Rust reference or slice, so the calls are safe.
+// Each pointer is that of a Rust reference or slice, but for the null one that an opening without stocks
+// may have, so the calls are safe.
 
 pub fn open(run: &mut PlainRun, edition: u8, count: u8, stocks: &[u16]) -> u8 {
     unsafe { raw::header_open(run, edition, count, stocks.as_ptr(), stocks.len()) }
+}
+
+pub fn open_null(run: &mut PlainRun, edition: u8, count: u8) -> u8 {
+    unsafe { raw::header_open(run, edition, count, std::ptr::null(), 0) }
 }
 
 pub fn send(run: &mut PlainRun, from: u8, to: u8, cars: u8) -> u8 {

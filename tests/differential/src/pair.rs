@@ -20,6 +20,8 @@ pub struct Pair<'a> {
     /// The proved code's run.
     plain: PlainRun,
     opening: Vec<u16>,
+    /// Whether the opening was given no stocks.
+    empty: bool,
     calls: Vec<(Call, u32)>,
     /// How many items remained at the last receipt.
     remaining: u8,
@@ -47,15 +49,15 @@ pub fn open(
     };
     let proved = ffi::cut_site_open(edition, count, stocks);
     let compared = counts.same(Entry::SiteOpen, named, &expected, &proved);
+    counts.opening(named, stocks, expected.refusal);
     let compared = compared.and_then(|()| {
-        let mut run = plain::ZEROS;
-        let refusal = header::open(&mut run, edition, count, stocks);
-        let by_header = PlainAnswer {
-            refusal,
-            remaining: 0,
-            run,
-        };
-        opened_by_header(counts, &expected, by_header)
+        let open = |run: &mut PlainRun| header::open(run, edition, count, stocks);
+        opened_by_header(counts, &expected, open)?;
+        if stocks.is_empty() {
+            let open = |run: &mut PlainRun| header::open_null(run, edition, count);
+            opened_by_header(counts, &expected, open)?;
+        }
+        Ok(())
     });
     let call = || format!("cut_site_open({edition}, {count}, {stocks:?})");
     compared.map_err(|found| Failure::new(String::new(), call(), found))?;
@@ -66,12 +68,18 @@ pub fn open(
 fn opened_by_header(
     counts: &mut Counts,
     answer: &PlainAnswer,
-    by_header: PlainAnswer,
+    open: impl Fn(&mut PlainRun) -> u8,
 ) -> Result<(), Found> {
-    let mut expected = *answer;
+    let (mut expected, mut run) = (*answer, plain::ZEROS);
     if expected.refusal != 0 {
         expected.run = plain::ZEROS;
     }
+    let refusal = open(&mut run);
+    let by_header = PlainAnswer {
+        refusal,
+        remaining: 0,
+        run,
+    };
     counts.equal(Entry::SiteOpen, &expected, &by_header)
 }
 
@@ -204,18 +212,21 @@ pub fn writers(
 }
 
 impl<'a> Pair<'a> {
-    /// Opens a run with an edition and stocks that are accepted.
+    /// Opens a run with an edition and stocks that are accepted; zeros alone are often left out.
     pub fn open(
         counts: &'a mut Counts,
         random: &mut Random,
         edition: u32,
         stocks: &[u16],
     ) -> Result<Pair<'a>, Failure> {
-        let (run, plain) = open(counts, edition as u8, stocks.len() as u8, stocks)?;
+        let empty = stocks.iter().all(|&stock| stock == 0) && random.chance(70);
+        let given = if empty { &[] } else { stocks };
+        let (run, plain) = open(counts, edition as u8, stocks.len() as u8, given)?;
         Ok(Pair {
             run,
             plain,
             opening: stocks.to_vec(),
+            empty,
             calls: Vec::new(),
             remaining: 0,
             turned: false,
@@ -227,7 +238,9 @@ impl<'a> Pair<'a> {
 
     fn failure(&self, call: String, found: Found) -> Failure {
         let (edition, stocks) = (self.run.edition, &self.opening);
-        let opening = format!("  cut_site_open with edition {edition}, stocks {stocks:?} -> 0\n");
+        let given = if self.empty { "not given" } else { "given" };
+        let opening =
+            format!("  cut_site_open with edition {edition}, stocks {stocks:?} {given} -> 0\n");
         Failure::new(opening + &text::calls(&self.calls), call, found)
     }
 
@@ -397,6 +410,9 @@ impl<'a> Pair<'a> {
         let above = recorded.lines.iter().flatten().any(|line| line.len() > 16);
         let totals = (recording.total, sum(&self.opening) as u32);
         self.counts.complete(edition, self.turned, above, totals);
+        if self.empty {
+            self.counts.complete_from_empty(edition);
+        }
         Ok(())
     }
 }

@@ -2,8 +2,9 @@
 
 use differential::compare::{Answer, Output};
 use differential::count::{
-    Check, Counts, Entry, Gate, Gates, Remaining, CHECKS, ENTRIES, GATES, HEADINGS, LEAST_ABOVE,
-    LEAST_ANSWERS, LEAST_CHECKS, LEAST_GATES, LEAST_REMAINING, LEAST_TURNED, WRONG_WAYS,
+    Check, Counts, Empty, Entry, Gate, Gates, Remaining, CHECKS, EMPTY, ENTRIES, GATES, HEADINGS,
+    LEAST_ABOVE, LEAST_ANSWERS, LEAST_CHECKS, LEAST_EMPTY, LEAST_GATES, LEAST_REMAINING,
+    LEAST_TURNED, WRONG_WAYS,
 };
 use differential::expect::{self, Made};
 use differential::ffi::{self, PlainAnswer, PlainReading, PlainRun, PlainStep};
@@ -417,6 +418,11 @@ fn enough() -> Counts {
             without: LEAST_REMAINING,
             refused: LEAST_REMAINING,
         },
+        empty: Empty {
+            times: [[LEAST_EMPTY; 22]; HEADINGS.len()],
+            zeros: [LEAST_EMPTY; 3],
+            complete: [LEAST_EMPTY; 3],
+        },
         turned: [LEAST_TURNED; 3],
         above: [LEAST_ABOVE; 3],
         comparisons: 0,
@@ -430,10 +436,11 @@ fn the_floors_are_those_of_all_that_is_counted() {
     let editions = EDITIONS.len();
     let gates = GATES + 1 + editions + WRONG_WAYS.len() + 1 + 2;
     let remaining = editions * PLACES + 6;
+    let empty = EMPTY.iter().map(|numbers| numbers.len()).sum::<usize>() + editions * 2;
     let missed = Counts::default().missed().len();
     assert_eq!(
         missed,
-        numbers + editions * (CHECKS + 2) + gates + remaining
+        numbers + editions * (CHECKS + 2) + gates + remaining + empty
     );
     assert_eq!(enough().missed(), Vec::<String>::new());
 }
@@ -492,6 +499,36 @@ fn a_missed_floor_of_items_that_remain_is_reported() {
     assert!(without.contains("readings without a receipt: 99 times"));
     let refused = missed(|counts| counts.remaining.refused -= 1);
     assert!(refused.contains("refused behind a receipt that left items: 99 times"));
+}
+
+#[test]
+fn a_missed_floor_of_openings_without_stocks_is_reported() {
+    let accepted = missed(|counts| counts.empty.times[0][0] -= 1);
+    assert!(accepted.contains("openings without stocks answering 0, edition 1: 99 times"));
+    let count = missed(|counts| counts.empty.times[2][2] -= 1);
+    assert!(count.contains("openings without stocks answering 2, edition 3: 99 times"));
+    let edition = missed(|counts| counts.empty.times[3][15] -= 1);
+    assert!(edition.contains("answering 15, another or no edition: 99 times"));
+    let zeros = missed(|counts| counts.empty.zeros[1] -= 1);
+    assert!(zeros.contains("openings with too few or too many zeros, edition 2: 99 times"));
+    let complete = missed(|counts| counts.empty.complete[2] -= 1);
+    assert!(complete.contains("complete recordings from no stocks, edition 3: 99 times"));
+}
+
+/// An opening is counted where it was given no stocks, or zeros that are refused with 3.
+#[test]
+fn an_opening_without_stocks_is_counted() {
+    let mut counts = Counts::default();
+    counts.opening(1, &[], 0);
+    counts.opening(3, &[], 2);
+    counts.opening(9, &[], 15);
+    counts.opening(2, &[0], 3);
+    counts.opening(2, &[0, 0], 0);
+    counts.opening(2, &[1], 3);
+    let times = &counts.empty.times;
+    assert_eq!((times[0][0], times[2][2], times[3][15]), (1, 1, 1));
+    assert_eq!(times.iter().flatten().sum::<u64>(), 3);
+    assert_eq!(counts.empty.zeros, [0, 1, 0]);
 }
 
 /// A hand-over of 0 cars is counted by its edition, its bit and the part and mark of its receiver.

@@ -115,6 +115,50 @@ fn openings_of_1_2_8_and_9_zones() {
     }
 }
 
+/// No stocks at all: an empty car park, whose journal has a word for each zone. Any other wrong number of
+/// stocks is refused, zeros too, and so are 9 zones or an unknown edition without stocks.
+#[test]
+fn openings_without_stocks() {
+    for edition in EDITIONS {
+        for count in 2..=8 {
+            let (refusal, run) = Run::open(edition, count, &[]);
+            assert_eq!(refusal, 0);
+            assert_eq!((run.edition, run.count), (edition, count));
+            assert!(run.opening == [0; 8] && run.zones.iter().all(|zone| zone.stock == 0));
+            let zeros = vec![0; run.size()];
+            assert!(run == Run::open(edition, count, &zeros).1);
+            let mut lent = [0xEE; 20];
+            assert_eq!(journal::write(&run, &mut lent), (0, 2 + 2 * run.size()));
+            assert!(lent[1..2 + 2 * run.size()].iter().all(|&byte| byte == 0));
+            for length in (1..=9).filter(|&length| length != run.size()) {
+                assert_eq!(Run::open(edition, count, &vec![0; length]).0, 3);
+            }
+        }
+        for count in [0, 1, 9, 256] {
+            assert!(Run::open(edition, count, &[]) == (2, Run::refused()));
+        }
+    }
+    for edition in [0, 4, 7, 255] {
+        for count in [0, 2, 3, 8, 9] {
+            assert!(Run::open(edition, count, &[]) == (15, Run::refused()));
+        }
+    }
+}
+
+/// The opening of three zones in edition 1 and that of eight in edition 2, byte for byte.
+#[test]
+fn journals_without_stocks() {
+    for (edition, count, first) in [(1, 2, 0x24), (1, 3, 0x28), (2, 8, 0x5C), (3, 8, 0x7C)] {
+        let (_, run) = Run::open(edition, count, &[]);
+        let mut lent = [0xEE; 20];
+        let (refusal, written) = journal::write(&run, &mut lent);
+        assert_eq!(refusal, 0);
+        let mut bytes = vec![0; 2 + 2 * run.size()];
+        bytes[0] = first;
+        assert_eq!(lent[..written], bytes[..]);
+    }
+}
+
 /// Question 15 comes before 2, 3 and 4, and what is handed back has edition 1.
 #[test]
 fn openings_of_every_edition() {

@@ -263,10 +263,10 @@ fn zones(counts: &mut Counts, random: &mut Random, _: usize) -> Outcome<()> {
 
 fn openings(counts: &mut Counts, random: &mut Random, _: usize) -> Outcome<()> {
     let (edition, count) = (any_edition(random), near(random));
-    let length = if random.chance(80) {
-        count.min(12)
-    } else {
-        near(random) % 13
+    let length = match random.below(10) {
+        0 => 0,
+        1 | 2 => near(random) % 13,
+        _ => count.min(12),
     };
     let most = 65_535 / u32::from(length).max(1);
     let mut stocks: Vec<u16> = (0..length).map(|_| random.within(0, most) as u16).collect();

@@ -154,6 +154,15 @@ const OPEN: Call = Call {
     ],
 };
 
+const OPEN_EMPTY: Call = Call {
+    name: "open without stocks",
+    ops: [
+        |s| idle::run(&mut s.work, s.run.count, 0, 0),
+        |s| proved::open(&mut s.work, s.run.edition, s.run.count, &[]),
+        |s| s.work.open(s.run.edition, s.run.count, &[]),
+    ],
+};
+
 #[inline(always)]
 fn stocks(run: &Run) -> &[u16] {
     &run.opening[..usize::from(run.count.min(8))]
@@ -396,6 +405,7 @@ fn cases() -> Vec<Case> {
     }
     for zones in [2, 8] {
         cases.push(case(&OPEN, "-", scenes::calm(zones)));
+        cases.push(case(&OPEN_EMPTY, "-", scenes::calm(zones)));
         for (lines, run) in [
             ("empty", scenes::calm(zones)),
             ("full", scenes::crowded(1, zones)),
