@@ -1,5 +1,5 @@
 /* A control room's desk: a whole run of three zones with 10, 20 and 30 cars, from the opening to the recording's bytes, then the same from
- * the journal alone, line checks, street entrances and a sign controller. Prints the recording and its total; exits 1 if a value is not
+ * the journal alone, line checks, street entrances, a sign controller and empty sites. Prints the recording and its total; exits 1 if a value is not
  * as it must be. */
 #include <inttypes.h>
 #include <stdio.h>
@@ -161,6 +161,29 @@ static void awaited(void)
     must(got.refusal == CUT_REFUSED_CHANNEL_EMPTY && got.remaining == 0, "so it need not have come back");
 }
 
+/* A site that is opened without stocks is empty, whatever the pointer; a row of zeros must have one for each zone. */
+static void empty(void)
+{
+    const uint16_t zeros[CUT_ZONES_MAX] = {0};
+    const uint8_t opened[] = {0x28, 0x00, 0x00, 0x00, 0x00, 0x00, 0x00, 0x00};
+    static cut_run other, same;
+    uint8_t bytes[CUT_JOURNAL_BYTES];
+    accepted(cut_open(&other, 1, 3, NULL, 0), "an empty site opens");
+    accepted(cut_open(&same, 1, 3, zeros, 3), "and one with three zeros");
+    must(memcmp(&other, &same, sizeof other) == 0, "they are the same");
+    cut_written w = cut_write(&other, bytes, sizeof bytes);
+    must(w.written == sizeof opened && memcmp(bytes, opened, sizeof opened) == 0, "the journal has a word for each zone");
+    for (uint8_t count = 2; count <= CUT_ZONES_MAX; count++) {
+        accepted(cut_open(&other, 2, count, zeros, 0), "an empty site opens, by any pointer");
+        accepted(cut_open(&same, 2, count, zeros, count), "and one with as many zeros as zones");
+        must(memcmp(&other, &same, sizeof other) == 0, "they are the same");
+        must(cut_open(&other, 2, count, zeros, count - 1u) == CUT_REFUSED_STOCK_COUNT, "a row of zeros one too short is refused");
+        must(memcmp(&other, &same, sizeof other) == 0, "and changes nothing");
+    }
+    must(cut_open(&other, 1, 9, NULL, 0) == CUT_REFUSED_ZONE_COUNT, "9 zones are refused without stocks too");
+    must(cut_open(&other, 7, 3, NULL, 0) == CUT_REFUSED_EDITION, "and edition 7");
+}
+
 int main(void)
 {
     const uint16_t stocks[] = {10, 20, 30};
@@ -190,6 +213,7 @@ int main(void)
     counted();
     full();
     awaited();
+    empty();
 
     for (size_t i = 0; i < w.written; i++)
         printf(i == 0 ? "%02X" : " %02X", bytes[i]);

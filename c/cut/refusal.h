@@ -10,9 +10,9 @@
 /* The version of the calls and structs. The major number, which is the library's soname too, is raised when a program would have to be
  * changed or compiled anew. */
 #define CUT_VERSION_MAJOR 3
-#define CUT_VERSION_MINOR 0
+#define CUT_VERSION_MINOR 1
 #define CUT_VERSION_PATCH 0
-#define CUT_VERSION "3.0.0"
+#define CUT_VERSION "3.1.0"
 
 /* The first and the last "edition" of zones, runs, journals and recordings that this version knows. An opening that names another one and a
  * journal of another one are refused with 15, a zone or a run of another one with 1.
@@ -43,7 +43,7 @@ enum cut_refusal {
     CUT_REFUSED_UNSOUND = 1,
     /* "Is the zone count 2 to 8?" No: the zone count is not 2 to 8. */
     CUT_REFUSED_ZONE_COUNT = 2,
-    /* "Are there as many stocks as zones?" No: not as many stocks as zones. */
+    /* "Are there as many stocks as zones?", or none. No: stocks are given, but not as many as zones. */
     CUT_REFUSED_STOCK_COUNT = 3,
     /* "Is their sum at most 65,535?" No: the stocks sum to more than 65,535. */
     CUT_REFUSED_STOCK_SUM = 4,
@@ -119,7 +119,7 @@ static inline const char *cut_refusal_words(uint8_t refusal)
     case CUT_REFUSED_ZONE_COUNT:
         return "the zone count is not 2 to 8";
     case CUT_REFUSED_STOCK_COUNT:
-        return "not as many stocks as zones";
+        return "stocks are given, but not as many as zones";
     case CUT_REFUSED_STOCK_SUM:
         return "the stocks sum to more than 65,535";
     case CUT_REFUSED_ZONE:
