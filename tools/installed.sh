@@ -70,7 +70,7 @@ sed -n "/^### A controller's loop/,/^### What/s/^    //p" "$root/docs/INTEGRATIO
 grep -q cut_zone_request loop.inc || fail "docs/INTEGRATION.md has no controller's loop."
 
 # The examples against the shared library and against the archive.
-for from in example.c desk.c both.cpp loop.c stack.c; do
+for from in example.c desk.c fitter.c both.cpp loop.c stack.c; do
     case $from in
     loop.c | stack.c) source=$root/tests/$from compile="$c -I." ;;
     *.cpp) source=$root/c/$from compile=$cpp ;;
