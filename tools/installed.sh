@@ -85,3 +85,8 @@ for from in example.c desk.c fitter.c both.cpp loop.c stack.c; do
     echo "$from with libcut.a:"
     ./alone
 done
+
+# What docs/OPENING.md says that the fitter's example prints.
+sed -n '/^## For a fitter/,$s/^    \([a-z]*: .*\)/\1/p' "$root/docs/OPENING.md" >said
+$c "$root/c/fitter.c" "$libdir/libcut.a" -o alone
+./alone | cmp - said || fail "docs/OPENING.md does not say what c/fitter.c prints."

@@ -9,7 +9,7 @@
  *
  * A call answers CUT_ACCEPTED, or the first refusal of its list, from left to right, that holds (cut_refusal_words gives its words); then the
  * run and every lent byte are as they were, and `remaining`, `written` and `total` are 0. Every value of every field and argument may be
- * passed. Pointers must not be null, also where a length is 0, but for the stocks of cut_open; they must name as many values as the length or the
+ * passed. Pointers must not be null, also where a length is 0 (but for the stocks of cut_open), must name as many values as the length or the
  * array's type says, and what is written through one must not overlap what another names.
  *
  * A run is sound where edition is 1 to 3, count is 2 to 8, records is at most 1,000, no zone of the site has more own events than there are

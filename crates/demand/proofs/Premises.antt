@@ -57,6 +57,11 @@ recorded-cut o cs lent typed opened answered =
     demand-three (o .terms) (o .stocks) (openCall o) (opens (o .terms) (o .stocks)) opened cs _ r (makes cs (openCall o .run) typed)
     (replicate lent 0) (x .bytes) (x .answer) (records r (replicate lent 0)) .cut answered
 
+-- What the recordings of the instances are computed by, named once: `unfolding computed` unfolds all of it.
+computed : Opening → List SiteCall → ℕ → RecordOutput
+unfolding isEdition isTraffic hasGates has members isCount isOn requestedBy startedBy itemOf messageWord pushed movedDown popped allFree requestedAll isChannel localSound localsSound channelSound channelsSound stocks carsOnChannels partsSound hasStarted openedRun isPair openCall answer journalBytes decode readCall sameLocal sameChannel sameZones sameChannels sameState replaysTo isReplayed noRequests recordCall itemWords recordingBytes
+computed o cs lent = recordedBy o cs lent
+
 -- Case A: stocks 10, 20, 30 and its nine calls, with a refused one between.
 abbrev pub openingA : Opening
 openingA = openingAs (termsAs 1 3) (10 ∷ 20 ∷ 30 ∷ [])
@@ -73,7 +78,7 @@ unfolding openCall isEdition isCount
 openedA = refl
 
 answeredA : recordedBy openingA callsA 16 .answer .refusal ≡ 0
-unfolding isEdition isTraffic hasGates has members isCount isOn requestedBy startedBy itemOf messageWord pushed movedDown popped allFree requestedAll isChannel localSound localsSound channelSound channelsSound stocks carsOnChannels partsSound hasStarted openedRun isPair openCall answer journalBytes decode readCall sameLocal sameChannel sameZones sameChannels sameState replaysTo isReplayed noRequests recordCall itemWords recordingBytes
+unfolding computed
 answeredA = refl
 
 pub case-a : Cut (openingOf openingA) (acceptedCalls callsA (openCall openingA .run))
@@ -102,7 +107,7 @@ shownCheck : recordedBy openingCheck callsCheck 14
       answer = record { refusal = 0; written = 14; total = 60 };
       bytes = 72 ∷ 0 ∷ 128 ∷ 1 ∷ 0 ∷ 14 ∷ 128 ∷ 2 ∷ 0 ∷ 21 ∷ 128 ∷ 1 ∷ 0 ∷ 25 ∷ [];
     }
-unfolding isEdition isTraffic hasGates has members isCount isOn requestedBy startedBy itemOf messageWord pushed movedDown popped allFree requestedAll isChannel localSound localsSound channelSound channelsSound stocks carsOnChannels partsSound hasStarted openedRun isPair openCall answer journalBytes decode readCall sameLocal sameChannel sameZones sameChannels sameState replaysTo isReplayed noRequests recordCall itemWords recordingBytes
+unfolding computed
 shownCheck = refl
 
 pub case-check : Cut (openingOf openingCheck) (acceptedCalls callsCheck (openCall openingCheck .run))
@@ -132,7 +137,7 @@ shownGates : recordedBy openingGates callsGates 14
       answer = record { refusal = 0; written = 14; total = 53 };
       bytes = 104 ∷ 0 ∷ 128 ∷ 3 ∷ 0 ∷ 8 ∷ 128 ∷ 2 ∷ 0 ∷ 15 ∷ 0 ∷ 0 ∷ 0 ∷ 30 ∷ [];
     }
-unfolding isEdition isTraffic hasGates has members isCount isOn requestedBy startedBy itemOf messageWord pushed movedDown popped allFree requestedAll isChannel localSound localsSound channelSound channelsSound stocks carsOnChannels partsSound hasStarted openedRun isPair openCall answer journalBytes decode readCall sameLocal sameChannel sameZones sameChannels sameState replaysTo isReplayed noRequests recordCall itemWords recordingBytes
+unfolding computed
 shownGates = refl
 
 pub case-gates : Cut (openingOf openingGates) (acceptedCalls callsGates (openCall openingGates .run))
@@ -161,7 +166,7 @@ shownEmpty : recordedBy openingEmpty callsEmpty 14
       answer = record { refusal = 0; written = 14; total = 5 };
       bytes = 104 ∷ 0 ∷ 128 ∷ 3 ∷ 0 ∷ 4 ∷ 128 ∷ 2 ∷ 0 ∷ 1 ∷ 0 ∷ 0 ∷ 0 ∷ 0 ∷ [];
     }
-unfolding isEdition isTraffic hasGates has members isCount isOn requestedBy startedBy itemOf messageWord pushed movedDown popped allFree requestedAll isChannel localSound localsSound channelSound channelsSound stocks carsOnChannels partsSound hasStarted openedRun isPair openCall answer journalBytes decode readCall sameLocal sameChannel sameZones sameChannels sameState replaysTo isReplayed noRequests recordCall itemWords recordingBytes
+unfolding computed
 shownEmpty = refl
 
 pub case-empty : Cut (openingOf (openingAs (termsAs 3 3) (0 ∷ 0 ∷ 0 ∷ []))) (acceptedCalls callsEmpty (openCall openingEmpty .run))

@@ -1,18 +1,19 @@
 -- An empty list of stocks means as many zeros as zones: the opening with the one is the opening with the other.
 use mathlib.Core.Path.{_≡_, refl, sym, _∙_, ap, subst}
 use mathlib.Core.Bool.{true}
+use mathlib.Core.Logic.{_≢_}
 use mathlib.Core.List.{List, [], _∷_}
 use Prim.Native.Nat.{ℕ, _<_, _≤_}
 use native.Mathlib.Omega.{arith}
 use lib.ListN.{length, getD, replicate, length-replicate}
-use borrow.Author.Tests.{eqb-true, eq-eqb}
+use borrow.Author.Tests.{eqb-true, eq-eqb, ne-eqb}
 use Rattle.rules.specs.Below.{sum, sumBelow, listBelow}
 use Rattle.rules.specs.Edition.{isEdition}
 use Rattle.rules.specs.Limits.{mostZones, mostCars}
 use Rattle.rules.specs.Questions.{isCount}
 use Rattle.rules.specs.Zone.{opened}
 use Rattle.run.specs.Claims.{filledList, filled}
-use Rattle.run.specs.Opening.{openingAs, stockAt, openingOf, firstRun, openedRun, isStockList, openCall}
+use Rattle.run.specs.Opening.{openingAs, stockAt, openingOf, firstRun, openedRun, isStockList, unopened, openCall}
 use Rattle.run.specs.State.{headAs, noLocal, zoneAt}
 use Rattle.run.specs.declared.Answer.{Answer}
 use Rattle.run.specs.declared.Opening.{Opening}
@@ -103,3 +104,9 @@ module _ (terms : Terms) (known : isEdition (terms .edition) ≡ true) (sized : 
   empty-zone k h =
       ap (λ (a : Answer). zoneAt (a .run .head) k) empty-opens
       ∙ list-at mostZones (λ i. opened i (stockAt (openingAs terms []) i)) noLocal k h
+
+  -- Any other list that has not as many stocks as there are zones, one of zeros too, is refused with 3.
+  pub other-refused : (stock : ℕ) (stocks : List ℕ) → length (stock ∷ stocks) ≢ terms .count
+      → openCall (openingAs terms (stock ∷ stocks)) ≡ unopened 3
+  unfolding openCall
+  other-refused stock stocks h = rw (known, sized, ne-eqb (length (stock ∷ stocks)) (terms .count) h) refl

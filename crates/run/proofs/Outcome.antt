@@ -5,7 +5,7 @@ use mathlib.Core.Logic.{_≢_, _⊎_, inl, inr}
 use Prim.Native.Nat.{ℕ, _+_, _<_, _≤_}
 use native.Mathlib.Omega.{arith}
 use lib.Dec.{eqb, leb}
-use borrow.Author.Tests.{leb-true, ltb-true, eqb-true, eqb-false, not-true, ne-eqb, le-leb}
+use borrow.Author.Tests.{leb-true, ltb-true, eqb-false, not-true, ne-eqb, le-leb}
 use Rattle.rules.specs.Edition.{isEdition}
 use Rattle.rules.specs.Limits.{mostCars, mostRecords, places}
 use Rattle.rules.specs.Questions.{ask, index, isCount, isOn, Among}

@@ -1,5 +1,4 @@
 -- `opening::is_stock_list` meets its contract.
-use borrow.Author.Needs.{needs}
 use Rattle.opening.proofs.Laws.{stock-list}
 use Rattle.opening.proofs.is_stock_list.Statement.{statement}
 use Rattle.opening.proofs.is_stock_list.Tie as tie
