@@ -25,11 +25,12 @@ int main()
     must(cut_zone_leave(cut_zone_enter(step.zone, 5).zone, 2).zone.stock == 13, "5 cars drive in and 2 out");
 
     cut_run run;
+    must(cut_open(&run, 3, 8, nullptr, 0) == CUT_ACCEPTED && run.head.zones[7].stock == 0, "an empty site opens");
     const std::uint16_t stocks[] = {10, 20, 30};
     must(cut_open(&run, 3, 3, stocks, 3) == CUT_ACCEPTED && run.head.zones[2].stock == 30, "the site opens");
     must(cut_enter(&run, 3, 5) == CUT_ACCEPTED && cut_leave(&run, 3, 2) == CUT_ACCEPTED, "5 cars drive in at 3 and 2 out");
     must(run.head.zones[2].stock == 33 && run.head.zones[2].events == 2, "both are counted");
-    must(cut_open(&run, 3, 8, nullptr, 0) == CUT_ACCEPTED && run.head.zones[7].stock == 0, "an empty site opens");
+    must(cut_open(&run, 3, 8, nullptr, 0) == CUT_ACCEPTED && run.head.zones[2].stock == 0, "opened anew without stocks it is empty");
     const cut_received received = cut_receive(&run, 1, 2);
     must(received.refusal == CUT_REFUSED_CHANNEL_EMPTY && received.remaining == 0, "nothing is on the line from 1 to 2");
     must(std::strcmp(cut_refusal_words(received.refusal), "the line is empty") == 0, "its words");

@@ -166,13 +166,17 @@ static void empty(void)
 {
     const uint16_t zeros[CUT_ZONES_MAX] = {0};
     const uint8_t opened[] = {0x28, 0x00, 0x00, 0x00, 0x00, 0x00, 0x00, 0x00};
-    static cut_run other, same;
+    const uint16_t cars[] = {1, 2, 3};
+    cut_run other, same;
     uint8_t bytes[CUT_JOURNAL_BYTES];
     accepted(cut_open(&other, 1, 3, NULL, 0), "an empty site opens");
     accepted(cut_open(&same, 1, 3, zeros, 3), "and one with three zeros");
     must(memcmp(&other, &same, sizeof other) == 0, "they are the same");
     cut_written w = cut_write(&other, bytes, sizeof bytes);
     must(w.written == sizeof opened && memcmp(bytes, opened, sizeof opened) == 0, "the journal has a word for each zone");
+    accepted(cut_open(&other, 1, 3, cars, 3), "a site with cars opens");
+    accepted(cut_open(&other, 1, 3, NULL, 0), "the same, opened anew without stocks");
+    must(memcmp(&other, &same, sizeof other) == 0, "is empty");
     for (uint8_t count = 2; count <= CUT_ZONES_MAX; count++) {
         accepted(cut_open(&other, 2, count, zeros, 0), "an empty site opens, by any pointer");
         accepted(cut_open(&same, 2, count, zeros, count), "and one with as many zeros as zones");

@@ -10,8 +10,6 @@
 /* Edition 3 has line checks and gates. */
 enum { EDITION = 3, DECKS = 4, STREET = 1 };
 
-static cut_run run;
-
 static void accepted(uint8_t refusal, const char *what)
 {
     if (refusal != CUT_ACCEPTED) {
@@ -29,33 +27,33 @@ static void print(const char *what, const uint8_t *bytes, size_t size)
 }
 
 /* No row of zeros is typed: no stocks mean stock 0 in every deck. */
-static void open_empty(void)
+static void open_empty(cut_run *run)
 {
     uint8_t bytes[CUT_JOURNAL_BYTES];
-    accepted(cut_open(&run, EDITION, DECKS, NULL, 0), "the empty site opens");
-    cut_written w = cut_write(&run, bytes, sizeof bytes);
+    accepted(cut_open(run, EDITION, DECKS, NULL, 0), "the empty site opens");
+    cut_written w = cut_write(run, bytes, sizeof bytes);
     accepted(w.refusal, "its journal is written");
     print("opened:  ", bytes, w.written);
 }
 
 /* Each line in either direction; a check moves no car. */
-static void check_lines(void)
+static void check_lines(cut_run *run)
 {
     for (uint8_t from = 1; from <= DECKS; from++)
         for (uint8_t to = 1; to <= DECKS; to++)
             if (from != to) {
-                accepted(cut_send(&run, from, to, 0), "a check is sent");
-                accepted(cut_receive(&run, from, to).refusal, "it arrives");
+                accepted(cut_send(run, from, to, 0), "a check is sent");
+                accepted(cut_receive(run, from, to).refusal, "it arrives");
             }
-    printf("checked:  %" PRIu16 " records\n", run.head.records);
+    printf("checked:  %" PRIu16 " records\n", run->head.records);
 }
 
-static void count(void)
+static void count(cut_run *run)
 {
     uint8_t bytes[CUT_RECORDING_BYTES];
-    accepted(cut_enter(&run, STREET, 3), "three cars drive in from the street");
-    accepted(cut_start(&run, STREET), "the deck at the street starts a recording");
-    cut_written w = cut_record(&run, bytes, sizeof bytes);
+    accepted(cut_enter(run, STREET, 3), "three cars drive in from the street");
+    accepted(cut_start(run, STREET), "the deck at the street starts a recording");
+    cut_written w = cut_record(run, bytes, sizeof bytes);
     accepted(w.refusal, "the recording is complete");
     print("recorded:", bytes, w.written);
     printf("total:    %" PRIu32 "\n", w.total);
@@ -63,9 +61,10 @@ static void count(void)
 
 int main(void)
 {
-    open_empty();
-    check_lines();
-    open_empty();
-    count();
+    cut_run run;
+    open_empty(&run);
+    check_lines(&run);
+    open_empty(&run);
+    count(&run);
     return 0;
 }

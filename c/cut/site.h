@@ -9,8 +9,8 @@
  *
  * A call answers CUT_ACCEPTED, or the first refusal of its list, from left to right, that holds (cut_refusal_words gives its words); then the
  * run and every lent byte are as they were, and `remaining`, `written` and `total` are 0. Every value of every field and argument may be
- * passed. Pointers must not be null, also where a length is 0 (but for the stocks of cut_open), must name as many values as the length or the
- * array's type says, and what is written through one must not overlap what another names.
+ * passed. Pointers must not be null, also where a length is 0 (only cut_open takes null stocks then), must name as many values as the length or
+ * the array's type says, and what is written through one must not overlap what another names.
  *
  * A run is sound where edition is 1 to 3, count is 2 to 8, records is at most 1,000, no zone of the site has more own events than there are
  * records, every set of its zones and requests names only zones of the site, no channel ("line") has more than 16 items, stocks and cars on
@@ -164,7 +164,7 @@ CUT_STATIC_ASSERT(CUT_RECORDING_BYTES == 2 + 4 * CUT_ZONES_MAX + 2 * CUT_RECORDS
 /* The library's functions over the parts of a run: its head by value (100 bytes) and its arrays by pointer (1,024 words, 64 bytes and 1,000
  * words). Programs use the calls on a cut_run below them, which take the same and say what is refused. */
 
-/* cut_open ("open"), but that stocks must not be null where n is 0 either; refused, it hands back a run too. Stack: CUT_OPEN_STACK. */
+/* cut_open ("open"), but stocks is never null, also where n is 0; refused, it hands back a run too. Stack: CUT_OPEN_STACK. */
 cut_answer cut_site_open(uint8_t edition, uint8_t count, const uint16_t *stocks, size_t n);
 
 /* cut_send ("hand-over"). Stack: CUT_CALL_STACK. */
@@ -199,13 +199,14 @@ cut_reading cut_journal_read(const uint8_t *bytes, size_t size);
 cut_written cut_journal_record(const uint8_t *bytes, size_t size, uint8_t *out, size_t room);
 
 /* Opens a site of `count` zones with their n stocks under an edition ("open"). Where n is 0 it opens an empty one, with stock 0 in every zone:
- * stocks is then looked at by nobody, and may be null. Refused with: 15 the edition is not 1 to 3; 2 the count is not 2 to 8; 3 n is neither
- * the count nor 0; 4 the stocks sum to more than 65,535. Then *run is as it was. Stack: CUT_OPEN_STACK, of which the library's answer takes
- * 4,214 bytes. */
+ * what stocks names is then read by nobody, and it may be null. Refused with: 15 the edition is not 1 to 3; 2 the count is not 2 to 8; 3 n is
+ * neither the count nor 0; 4 the stocks sum to more than 65,535. Then *run is as it was. Stack: CUT_OPEN_STACK, of which the library's answer
+ * takes 4,214 bytes. */
 static inline uint8_t cut_open(cut_run *run, uint8_t edition, uint8_t count, const uint16_t *stocks, size_t n)
 {
-    /* The library is never passed a null pointer: without stocks it gets one to words that it does not read. */
-    cut_answer a = cut_site_open(edition, count, n == 0 ? run->head.opening : stocks, n);
+    /* The library is never passed a null pointer: without stocks it gets one to a word that it does not read. */
+    static const uint16_t none = 0;
+    cut_answer a = cut_site_open(edition, count, n == 0 ? &none : stocks, n);
     if (a.refusal == CUT_ACCEPTED)
         *run = a.run;
     return a.refusal;

@@ -1,30 +1,16 @@
 -- The worked edges of openings without stocks (request 2.5): an empty car park, whose journal has a word for each zone.
 use mathlib.Core.List.{List, [], _∷_, _++_}
 use Prim.Native.Nat.{ℕ}
-use lib.ListN.{replicate, take}
-use Rattle.rules.specs.declared.Checkpoint.the-variants.{None}
+use lib.ListN.{replicate}
 use Rattle.rules.specs.declared.Direction.the-variants.{In}
-use Rattle.rules.specs.declared.Local.{Local}
 use Rattle.run.specs.declared.Run.{Run}
 use Rattle.run.specs.declared.SiteCall.{SiteCall}
 use Rattle.run.specs.declared.SiteCall.the-variants.{Send, Receive, Start, Gate}
-use Rattle.edges.specs.Rows.{Row, opensIn, gives, writes, reads, records, recordsJournal, prints, zone, runIn, nothing}
+use Rattle.edges.specs.Rows.{Row, opensIn, gives, writes, reads, records, recordsJournal, prints, runIn, nothing}
 
--- An empty car park by its edition and zone count: each zone has heard itself alone.
-abbrev pub emptyZones : List Local
-emptyZones =
-    zone 0 1 0 None
-    ∷ zone 0 2 0 None
-    ∷ zone 0 4 0 None
-    ∷ zone 0 8 0 None
-    ∷ zone 0 16 0 None
-    ∷ zone 0 32 0 None
-    ∷ zone 0 64 0 None
-    ∷ zone 0 128 0 None
-    ∷ []
-
+-- An empty car park by its edition and zone count: its zones are as those that a site does not have.
 abbrev pub empty : ℕ → ℕ → Run
-empty edition count = runIn edition (replicate count 0) (take count emptyZones) [] []
+empty edition count = runIn edition (replicate count 0) [] [] []
 
 abbrev pub openings : List Row
 openings =
@@ -42,12 +28,16 @@ openings =
     ∷ opensIn 1 3 (0 ∷ 0 ∷ 0 ∷ 0 ∷ []) 3 nothing
     ∷ opensIn 2 8 (replicate 7 0) 3 nothing
     ∷ opensIn 2 8 (replicate 9 0) 3 nothing
-    -- 15 and 2 come first.
+    -- 2 and 15 are asked without stocks, too; and they come before 3.
     ∷ opensIn 1 9 [] 2 nothing
     ∷ opensIn 3 1 [] 2 nothing
     ∷ opensIn 1 0 [] 2 nothing
     ∷ opensIn 7 3 [] 15 nothing
     ∷ opensIn 0 0 [] 15 nothing
+    ∷ opensIn 1 9 (0 ∷ []) 2 nothing
+    ∷ opensIn 2 1 (0 ∷ 0 ∷ []) 2 nothing
+    ∷ opensIn 7 3 (0 ∷ []) 15 nothing
+    ∷ opensIn 0 9 (0 ∷ []) 15 nothing
     ∷ []
 
 -- Zone 3 has no car to hand over. Five cars drive in at zone 1, two go on to zone 2, one comes back, and zone 2 starts; "68 07 00 00 00 00 00 00

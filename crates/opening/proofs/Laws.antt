@@ -1,4 +1,4 @@
--- Stocks: a sum one step longer, and a list of 8 by its indices.
+-- Stocks: how many pass question 3, a sum one step longer, and a list of 8 by its indices.
 use mathlib.Core.Path.{_≡_, refl, sym, _∙_, ap}
 use mathlib.Core.Bool.{_||_}
 use mathlib.Core.List.{List, [], _∷_}

@@ -65,8 +65,8 @@ Refused = (answer (Receive 3 1) (after full three) .refusal ≡ 10)
 -- The numbers of refusals: where two questions are answered no, that of the first. Zone 1 has 10 cars, its channel to zone 2 is full,
 -- and zone 3 has started.
 abbrev Numbers : Type 0
-Numbers = (openCall (openingAs (termsAs 0 9) []) .refusal ≡ 15) × (openCall (openingAs (termsAs 4 9) []) .refusal ≡ 15)
-    × (openCall (openingAs (termsAs 2 9) []) .refusal ≡ 2) × (openCall (openingAs (termsAs 1 2) (65536 ∷ [])) .refusal ≡ 3)
+Numbers = (openCall (openingAs (termsAs 0 9) []) .refusal ≡ 15) × (openCall (openingAs (termsAs 4 3) (0 ∷ [])) .refusal ≡ 15)
+    × (openCall (openingAs (termsAs 2 9) (0 ∷ [])) .refusal ≡ 2) × (openCall (openingAs (termsAs 1 2) (65536 ∷ [])) .refusal ≡ 3)
     × (openCall (openingAs (termsAs 1 3) (0 ∷ [])) .refusal ≡ 3) × (openCall (openingAs (termsAs 1 3) []) .refusal ≡ 0)
     × (openCall (openingAs (termsAs 2 2) (65535 ∷ 1 ∷ [])) .refusal ≡ 4)
     × (answer (Send 1 1 0) three .refusal ≡ 5) × (answer (Send 1 2 11) (after full three) .refusal ≡ 7)

@@ -28,7 +28,7 @@ list-filled o e = go (o .stocks) e
     go [] e = length-replicate {A = ℕ} (o .terms .count) 0
     go (stock ∷ stocks) e = eqb-true (length (stock ∷ stocks)) (o .terms .count) e
 
--- The stock at each index is the same, and so are the sum and the answer to question 3.
+-- The stock at each index is the same, and so is the sum.
 pub stocks-filled : (o : Opening) → stockAt (filled o) ≡ stockAt o
 stocks-filled o = λ x i. at (o .stocks) i x
   where
@@ -58,6 +58,7 @@ pub short-list : (count : ℕ) (stocks : List ℕ) → isStockList count stocks 
 short-list count [] e = omega arith
 short-list count (stock ∷ stocks) e = let h = eqb-true (length (stock ∷ stocks)) count e in omega arith
 
+-- As many stocks as zones pass question 3; what is meant is answered as the list is.
 pub full-list : (count : ℕ) (stocks : List ℕ) → length stocks ≡ count → isStockList count stocks ≡ true
 full-list count [] e = refl
 full-list count (stock ∷ stocks) e = eq-eqb (length (stock ∷ stocks)) count e

@@ -1,6 +1,24 @@
 /* The calls of c/cut/site.h that are inline functions, and sums over the fields of the headers' structs by their names, so that the headers
  * themselves are compared. */
+#include <stddef.h>
+
+/* The header's cut_open calls the function below in place of the library's, which it stands before. */
+#define cut_site_open passed_site_open
 #include <cut/site.h>
+#undef cut_site_open
+
+cut_answer cut_site_open(uint8_t edition, uint8_t count, const uint16_t *stocks, size_t n);
+
+/* What the library answers; it must not be passed a null pointer, so one is answered with a refusal that there is not. */
+cut_answer passed_site_open(uint8_t edition, uint8_t count, const uint16_t *stocks, size_t n)
+{
+    cut_answer a = {0};
+    if (stocks == NULL) {
+        a.refusal = UINT8_MAX;
+        return a;
+    }
+    return cut_site_open(edition, count, stocks, n);
+}
 
 uint8_t header_open(cut_run *run, uint8_t edition, uint8_t count, const uint16_t *stocks, size_t n)
 {

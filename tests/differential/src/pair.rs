@@ -64,15 +64,15 @@ pub fn open(
     Ok((run, proved.run))
 }
 
-/// Compares the header's opening on zeros, which leaves them as they were where it is refused.
+/// Compares the header's opening of a run that was used before, which is as it was where that is refused.
 fn opened_by_header(
     counts: &mut Counts,
     answer: &PlainAnswer,
     open: impl Fn(&mut PlainRun) -> u8,
 ) -> Result<(), Found> {
-    let (mut expected, mut run) = (*answer, plain::ZEROS);
+    let (mut expected, mut run) = (*answer, plain::USED);
     if expected.refusal != 0 {
-        expected.run = plain::ZEROS;
+        expected.run = plain::USED;
     }
     let refusal = open(&mut run);
     let by_header = PlainAnswer {

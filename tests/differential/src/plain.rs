@@ -35,6 +35,21 @@ pub const ZEROS: PlainRun = PlainRun {
     journal: [0; 1000],
 };
 
+/// A struct that was used before: a run of eight zones with cars.
+pub const USED: PlainRun = PlainRun {
+    count: 8,
+    edition: 1,
+    records: 1,
+    zones: [PlainLocal {
+        stock: 9,
+        ..NO_ZONE
+    }; 8],
+    opening: [9; 8],
+    items: [9; 1024],
+    lens: [1; 64],
+    journal: [9; 1000],
+};
+
 /// The place of a line among the 64.
 pub fn place(a: usize, b: usize) -> usize {
     8 * a + b

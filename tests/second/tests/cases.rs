@@ -145,17 +145,26 @@ fn openings_without_stocks() {
     }
 }
 
-/// The opening of three zones in edition 1 and that of eight in edition 2, byte for byte.
+/// The worked openings of docs/OPENING.md: edition, zones and stocks; the refusal; the journal.
 #[test]
-fn journals_without_stocks() {
-    for (edition, count, first) in [(1, 2, 0x24), (1, 3, 0x28), (2, 8, 0x5C), (3, 8, 0x7C)] {
-        let (_, run) = Run::open(edition, count, &[]);
-        let mut lent = [0xEE; 20];
-        let (refusal, written) = journal::write(&run, &mut lent);
-        assert_eq!(refusal, 0);
-        let mut bytes = vec![0; 2 + 2 * run.size()];
-        bytes[0] = first;
-        assert_eq!(lent[..written], bytes[..]);
+fn worked_openings() {
+    let lines = include_str!("../../../docs/OPENING.md").lines();
+    let table = lines.skip_while(|line| !line.starts_with("| Opening (edition, zones, stocks)"));
+    let rows: Vec<&str> = table.take_while(|line| line.starts_with('|')).collect();
+    assert_eq!(rows.len(), 2 + 7);
+    for row in &rows[2..] {
+        let cells: Vec<&str> = row.split('|').map(str::trim).collect();
+        let opening: Vec<&str> = cells[1].split(", ").collect();
+        let number = |text: &str| text.parse::<u32>().expect("a number is there");
+        let given = opening[2].split(' ').filter(|&stock| stock != "none");
+        let stocks: Vec<u16> = given.map(|stock| number(stock) as u16).collect();
+        let (refusal, run) = Run::open(number(opening[0]), number(opening[1]), &stocks);
+        assert_eq!(refusal, number(cells[2]), "{row}");
+        let journal: Vec<String> = bytes_of(&run)
+            .iter()
+            .map(|byte| format!("{byte:02X}"))
+            .collect();
+        assert_eq!(journal.join(" "), cells[3].trim_matches('`'), "{row}");
     }
 }
 
