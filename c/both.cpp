@@ -1,5 +1,5 @@
-// The headers from C++: a zone and a site are opened, cars drive in and out, and one refusal of each is met. Exits 1 if a value is not as it
-// must be.
+// The headers from C++: a zone and a site are opened, the site without stocks too, cars drive in and out, and one refusal of each is met. Exits 1
+// if a value is not as it must be.
 #include <cstdio>
 #include <cstdlib>
 #include <cstring>

@@ -161,12 +161,12 @@ static void awaited(void)
     must(got.refusal == CUT_REFUSED_CHANNEL_EMPTY && got.remaining == 0, "so it need not have come back");
 }
 
-/* A site that is opened without stocks is empty, whatever the pointer; a row of zeros must have one for each zone. */
+/* A site that is opened without stocks is empty, with a null pointer and with any valid one; a row of zeros must have one for each zone. */
 static void empty(void)
 {
     const uint16_t zeros[CUT_ZONES_MAX] = {0};
     const uint8_t opened[] = {0x28, 0x00, 0x00, 0x00, 0x00, 0x00, 0x00, 0x00};
-    const uint16_t cars[] = {1, 2, 3};
+    const uint16_t cars[CUT_ZONES_MAX] = {1, 2, 3, 4, 5, 6, 7, 8};
     cut_run other, same;
     uint8_t bytes[CUT_JOURNAL_BYTES];
     accepted(cut_open(&other, 1, 3, NULL, 0), "an empty site opens");
@@ -178,7 +178,7 @@ static void empty(void)
     accepted(cut_open(&other, 1, 3, NULL, 0), "the same, opened anew without stocks");
     must(memcmp(&other, &same, sizeof other) == 0, "is empty");
     for (uint8_t count = 2; count <= CUT_ZONES_MAX; count++) {
-        accepted(cut_open(&other, 2, count, zeros, 0), "an empty site opens, by any pointer");
+        accepted(cut_open(&other, 2, count, cars, 0), "an empty site opens, whatever words the pointer names");
         accepted(cut_open(&same, 2, count, zeros, count), "and one with as many zeros as zones");
         must(memcmp(&other, &same, sizeof other) == 0, "they are the same");
         must(cut_open(&other, 2, count, zeros, count - 1u) == CUT_REFUSED_STOCK_COUNT, "a row of zeros one too short is refused");

@@ -1,6 +1,6 @@
-/* A fitter's first evening at a site of four decks, all of them empty. The site is opened without stocks, every line is tried with a check of 0
- * cars, the site is opened anew for the desk, and the first cars drive in and are counted. Prints the journal that each opening begins and
- * the count; exits 1 if a call is refused. */
+/* A fitter's first evening at a site of four decks, all of them empty. The run is opened without stocks, and a check of 0 cars goes over each of its
+ * lines. Then it is opened anew, so that the desk's journal begins without these checks, and the first cars drive in and are recorded. Prints the
+ * journal of each opening, the number of records behind the checks, the recording and its total; exits 1 if a call is refused. */
 #include <inttypes.h>
 #include <stdio.h>
 #include <stdlib.h>
@@ -36,7 +36,7 @@ static void open_empty(cut_run *run)
     print("opened:  ", bytes, w.written);
 }
 
-/* Each line in either direction; a check moves no car. */
+/* Each line once; a check moves no car. */
 static void check_lines(cut_run *run)
 {
     for (uint8_t from = 1; from <= DECKS; from++)
@@ -48,7 +48,7 @@ static void check_lines(cut_run *run)
     printf("checked:  %" PRIu16 " records\n", run->head.records);
 }
 
-static void count(cut_run *run)
+static void record(cut_run *run)
 {
     uint8_t bytes[CUT_RECORDING_BYTES];
     accepted(cut_enter(run, STREET, 3), "three cars drive in from the street");
@@ -61,10 +61,10 @@ static void count(cut_run *run)
 
 int main(void)
 {
-    cut_run run;
+    static cut_run run;
     open_empty(&run);
     check_lines(&run);
     open_empty(&run);
-    count(&run);
+    record(&run);
     return 0;
 }

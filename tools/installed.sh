@@ -86,15 +86,20 @@ for from in example.c desk.c fitter.c both.cpp loop.c stack.c; do
     ./alone
 done
 
-# The lines of docs/OPENING.md for a fitter, and what it says that the fitter's example prints.
+# The lines of docs/OPENING.md for a fitter, also with a run on the stack, of which compilers may say that it has no value yet.
 {
     printf '#include <stdio.h>\n#include <cut/site.h>\nint main(void)\n{\n'
     sed -n '/^## For a fitter/,/^c.fitter.c/s/^    //p' "$root/docs/OPENING.md"
-    printf 'return refusal;\n}\n'
+    printf 'return 0;\n}\n'
 } >lines.c
 grep -q cut_open lines.c || fail "docs/OPENING.md has no lines for a fitter."
-$c lines.c "$libdir/libcut.a" -o alone
-./alone
+sed 's/^static //' lines.c >automatic.c
+for from in lines.c automatic.c; do
+    $c $from "$libdir/libcut.a" -o alone
+    ./alone || fail "The opening in docs/OPENING.md for a fitter is refused."
+done
+
+# What that page says of the output of c/fitter.c.
 sed -n '/^## For a fitter/,$s/^    \([a-z]*: .*\)/\1/p' "$root/docs/OPENING.md" >said
 $c "$root/c/fitter.c" "$libdir/libcut.a" -o alone
 ./alone | cmp - said || fail "docs/OPENING.md does not say what c/fitter.c prints."

@@ -164,7 +164,7 @@ CUT_STATIC_ASSERT(CUT_RECORDING_BYTES == 2 + 4 * CUT_ZONES_MAX + 2 * CUT_RECORDS
 /* The library's functions over the parts of a run: its head by value (100 bytes) and its arrays by pointer (1,024 words, 64 bytes and 1,000
  * words). Programs use the calls on a cut_run below them, which take the same and say what is refused. */
 
-/* cut_open ("open"), but stocks is never null, also where n is 0; refused, it hands back a run too. Stack: CUT_OPEN_STACK. */
+/* cut_open ("open"), but stocks must not be null, also where n is 0; refused, it hands back a run too. Stack: CUT_OPEN_STACK. */
 cut_answer cut_site_open(uint8_t edition, uint8_t count, const uint16_t *stocks, size_t n);
 
 /* cut_send ("hand-over"). Stack: CUT_CALL_STACK. */
@@ -199,7 +199,7 @@ cut_reading cut_journal_read(const uint8_t *bytes, size_t size);
 cut_written cut_journal_record(const uint8_t *bytes, size_t size, uint8_t *out, size_t room);
 
 /* Opens a site of `count` zones with their n stocks under an edition ("open"). Where n is 0 it opens an empty one, with stock 0 in every zone:
- * what stocks names is then read by nobody, and it may be null. Refused with: 15 the edition is not 1 to 3; 2 the count is not 2 to 8; 3 n is
+ * stocks may then be null, and what it names is read by nobody. Refused with: 15 the edition is not 1 to 3; 2 the count is not 2 to 8; 3 n is
  * neither the count nor 0; 4 the stocks sum to more than 65,535. Then *run is as it was. Stack: CUT_OPEN_STACK, of which the library's answer
  * takes 4,214 bytes. */
 static inline uint8_t cut_open(cut_run *run, uint8_t edition, uint8_t count, const uint16_t *stocks, size_t n)

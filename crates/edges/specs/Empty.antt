@@ -8,7 +8,7 @@ use Rattle.run.specs.declared.SiteCall.{SiteCall}
 use Rattle.run.specs.declared.SiteCall.the-variants.{Send, Receive, Start, Gate}
 use Rattle.edges.specs.Rows.{Row, opensIn, gives, writes, reads, records, recordsJournal, prints, runIn, nothing}
 
--- An empty car park by its edition and zone count: its zones are as those that a site does not have.
+-- An empty car park by its edition and zone count: each zone is as a run keeps one that the site lacks, with stock 0, and it has heard itself alone.
 abbrev pub empty : ℕ → ℕ → Run
 empty edition count = runIn edition (replicate count 0) [] [] []
 

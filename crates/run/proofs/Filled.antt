@@ -90,7 +90,7 @@ unfolding openCall
 open-filled o = rw (answer-filled (o .terms .count) (o .stocks), sum-filled o, opened-filled o) refl
 
 -- "An opening with an empty stock list now means stock 0 in every zone": opening with no stocks is opening with as many zeros as zones,
--- whatever the edition and the zone count, one of which 15 or 2 may refuse.
+-- whatever the edition and the zone count, also where 15 or 2 refuses it.
 pub empty-zeros : (terms : Terms) → openCall (openingAs terms []) ≡ openCall (openingAs terms (replicate (terms .count) 0))
 empty-zeros terms = sym (open-filled (openingAs terms []))
 

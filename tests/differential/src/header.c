@@ -2,14 +2,14 @@
  * themselves are compared. */
 #include <stddef.h>
 
-/* The header's cut_open calls the function below in place of the library's, which it stands before. */
+/* The header's cut_open calls the function below, which then calls the library's. */
 #define cut_site_open passed_site_open
 #include <cut/site.h>
 #undef cut_site_open
 
 cut_answer cut_site_open(uint8_t edition, uint8_t count, const uint16_t *stocks, size_t n);
 
-/* What the library answers; it must not be passed a null pointer, so one is answered with a refusal that there is not. */
+/* What the library answers. It must not be passed a null pointer: one is answered with a number that no call gives. */
 cut_answer passed_site_open(uint8_t edition, uint8_t count, const uint16_t *stocks, size_t n)
 {
     cut_answer a = {0};

@@ -64,7 +64,7 @@ pub fn open(
     Ok((run, proved.run))
 }
 
-/// Compares the header's opening of a run that was used before, which is as it was where that is refused.
+/// Compares the header's opening on a struct full of other values, which a refused opening leaves as it was.
 fn opened_by_header(
     counts: &mut Counts,
     answer: &PlainAnswer,

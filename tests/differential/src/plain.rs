@@ -35,7 +35,7 @@ pub const ZEROS: PlainRun = PlainRun {
     journal: [0; 1000],
 };
 
-/// A struct that was used before: a run of eight zones with cars.
+/// A struct full of other values.
 pub const USED: PlainRun = PlainRun {
     count: 8,
     edition: 1,

@@ -129,6 +129,7 @@ fn openings_without_stocks() {
             assert!(run == Run::open(edition, count, &zeros).1);
             let mut lent = [0xEE; 20];
             assert_eq!(journal::write(&run, &mut lent), (0, 2 + 2 * run.size()));
+            assert_eq!(u32::from(lent[0]), edition << 5 | (count - 1) << 2);
             assert!(lent[1..2 + 2 * run.size()].iter().all(|&byte| byte == 0));
             for length in (1..=9).filter(|&length| length != run.size()) {
                 assert_eq!(Run::open(edition, count, &vec![0; length]).0, 3);
@@ -151,7 +152,7 @@ fn worked_openings() {
     let lines = include_str!("../../../docs/OPENING.md").lines();
     let table = lines.skip_while(|line| !line.starts_with("| Opening (edition, zones, stocks)"));
     let rows: Vec<&str> = table.take_while(|line| line.starts_with('|')).collect();
-    assert_eq!(rows.len(), 2 + 7);
+    assert_eq!(rows.len(), 2 + 8);
     for row in &rows[2..] {
         let cells: Vec<&str> = row.split('|').map(str::trim).collect();
         let opening: Vec<&str> = cells[1].split(", ").collect();
