@@ -100,7 +100,7 @@ cars-under : (i j : ℕ) (cs : List ℕ) → j < 8 → All (λ w. w / 256 ≡ ch
 cars-under i j [] hj h = tt
 cars-under i j (c ∷ cs) hj h = (omega (arith, h .0), cars-under i j cs hj (h .1))
 
-length-join : (n : ℕ) (f : ℕ → List ℕ) → length (joinBelow n f) ≡ sumBelow n (λ k. length (f k))
+pub length-join : (n : ℕ) (f : ℕ → List ℕ) → length (joinBelow n f) ≡ sumBelow n (λ k. length (f k))
 length-join zero f = refl
 length-join (suc n) f = let q = length-join n f in omega (arith, length-append (joinBelow n f) (f n))
 

@@ -6,6 +6,8 @@ pub mod Complete
 pub mod Bounds
 pub mod Sized
 pub mod Shows
+pub mod Most
 pub mod Read
 pub mod Totals
 pub mod Examples
+pub mod Asked

@@ -89,7 +89,7 @@ zone-at (suc n) k s h = go (λ b. zone-at n k s b) (split k n h)
         )
 
 -- The cars of the words whose high byte is an index.
-cars-append : (k : ℕ) (xs ys : List ℕ) → carsShown k (xs ++ ys) ≡ carsShown k xs ++ carsShown k ys
+pub cars-append : (k : ℕ) (xs ys : List ℕ) → carsShown k (xs ++ ys) ≡ carsShown k xs ++ carsShown k ys
 cars-append k [] ys = refl
 cars-append k (x ∷ xs) ys = ap (cons-if (eqb (x / 256) k) (x % 256)) (cars-append k xs ys) ∙ go (eqb (x / 256) k)
   where
@@ -227,6 +227,19 @@ module _ (t : Terms) (s : Snapshot) (fits : Fits (t .count) s) (on : (k : ℕ) �
       let front = headerOf t (length (itemWords count s)) ∷ joinBelow count (zoneWords s) in
       let e : 2 + 4 * zonesIn (wordAt shownBytes 0) ≡ 2 * length front = omega (arith, zones-are, zones-length count s) in
       ap₂ (wordsFrom shownBytes) e number-are ∙ words-read-from front (itemWords count s) rest
+
+  -- The zones, the items and their number, for whoever reads the bytes.
+  pub zones-shown : zonesIn (wordAt (recordingBytes t s ++ rest) 0) ≡ t .count
+  unfolding shownBytes
+  zones-shown = zones-are
+
+  pub number-shown : numberIn (wordAt (recordingBytes t s ++ rest) 0) ≡ length (itemWords (t .count) s)
+  unfolding shownBytes
+  number-shown = number-are
+
+  pub items-shown : itemsIn (recordingBytes t s ++ rest) ≡ itemWords (t .count) s
+  unfolding shownBytes
+  items-shown = items-read
 
   -- The two words of a zone of the site.
   zone-read : (k : ℕ) → k < count → zoneWord shownBytes k ≡ cond (s .recorded k) 32768 0 + s .events k
@@ -381,7 +394,7 @@ module _ (r : Run) (w : WholeRun r) (e : isReplayed r ≡ true) where
   lengths : length (openingStocks r) ≡ countOf (r .head)
   lengths = length-take-le (countOf (r .head)) (r .head .opening .stocks) (omega (arith, w .opening, run-sound r w e .most))
 
-  snapshot-fits : Fits (countOf (r .head)) (snapshotOf r)
+  pub snapshot-fits : Fits (countOf (r .head)) (snapshotOf r)
   snapshot-fits =
       let s = run-sound r w e in
       let site = sym (site-is r w e) in

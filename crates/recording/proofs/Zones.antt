@@ -73,7 +73,7 @@ reached r w e =
       site = ap (λ (x : Reading). siteOf (x .run)) (sym read) ∙ same-site r w e;
     }
 
-join-same : {A : Type 0} (n : ℕ) (f g : ℕ → List A) → ((k : ℕ) → k < n → f k ≡ g k) → joinBelow n f ≡ joinBelow n g
+pub join-same : {A : Type 0} (n : ℕ) (f g : ℕ → List A) → ((k : ℕ) → k < n → f k ≡ g k) → joinBelow n f ≡ joinBelow n g
 join-same zero f g h = refl
 join-same (suc n) f g h = ap₂ _++_ (join-same n f g (λ k b. h k (omega arith))) (h n (omega arith))
 

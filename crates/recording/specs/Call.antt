@@ -1,4 +1,4 @@
--- The recording call: "Recording: 1, 12, 13, 14."
+-- The recording call.
 use mathlib.Core.Bool.{Bool, not, _||_}
 use mathlib.Core.List.{List, [], _∷_, map}
 use Prim.Native.Nat.{ℕ, _*_}
@@ -7,7 +7,7 @@ use lib.ListN.{length}
 use Rattle.rules.specs.Cut.{Snapshot, snapshot}
 use Rattle.rules.specs.Limits.{mostZones}
 use Rattle.rules.specs.Park.{total}
-use Rattle.rules.specs.Questions.{question, ask}
+use Rattle.rules.specs.Questions.{Question, question, ask}
 use Rattle.rules.specs.Site.{Call, waits}
 use Rattle.channel.specs.Channels.{itemsOn, isChannel}
 use Rattle.channel.specs.declared.Channels.{Channels}
@@ -53,14 +53,16 @@ withTotal n o = record {
 abbrev pub notRecorded : List ℕ → ℕ → RecordOutput
 notRecorded lent n = withTotal 0 (refusedOutput lent n)
 
-unfoldable pub recordCall : Run → List ℕ → RecordOutput
-recordCall r lent =
-    ask (
+-- "Recording: 1, 12, 13, 14": the questions of a call that writes these bytes of a run's recording.
+abbrev pub recordingQuestions : Run → (bytes lent : List ℕ) → List Question
+recordingQuestions r bytes lent =
     question 1 (isReplayed r)
     ∷ question 12 (hasStarted (r .head))
     ∷ question 13 (noRequests (countOf (r .head)) (r .channels))
-    ∷ question 14 (leb (length (recordingBytes (termsOf (r .head)) (snapshotOf r))) (length lent))
+    ∷ question 14 (leb (length bytes) (length lent))
     ∷ []
-    )
-    (notRecorded lent)
+
+unfoldable pub recordCall : Run → List ℕ → RecordOutput
+recordCall r lent =
+    ask (recordingQuestions r (recordingBytes (termsOf (r .head)) (snapshotOf r)) lent) (notRecorded lent)
     (withTotal (recordedTotal r) (writtenOutput lent (recordingBytes (termsOf (r .head)) (snapshotOf r))))

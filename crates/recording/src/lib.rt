@@ -7,6 +7,9 @@ use rules::ZONES;
 // What the firm bit, of a permanent checkpoint, weighs in a zone's first word.
 pub const PERMANENT_WEIGHT: u16 = 32768;
 
+// The number of values of the events' field, in the same word.
+pub const EVENTS_VALUES: u16 = 1024;
+
 // The bytes of the longest recording (`recording-most`): a header word, two words for each zone, a word for each item, and no item is
 // without its record.
 pub const RECORDING_BYTES: usize = 2 + 4 * ZONES + 2 * RECORDS;

@@ -21,7 +21,7 @@ use Rattle.rules.specs.Cut.{Allowed, run, taking, moveOf, moves, Complet
 use Rattle.rules.proofs.Tests.{eqb-refl}
 use Rattle.rules.proofs.Sums.{sum-change, sums-zero, sums-change}
 use Rattle.rules.proofs.Guarded.{on-true, on-false}
-use Rattle.rules.proofs.Lists.{All, keep}
+use Rattle.rules.proofs.Lists.{All, keep, all-append}
 use Rattle.rules.proofs.Tagged.{Event, TaggedPark, Steps}
 use Rattle.rules.proofs.Untagged.{plain, plain-steps}
 use Rattle.rules.proofs.History.{History, openH, history, movesOf, now-run, moves-open}
@@ -160,10 +160,6 @@ Between n (send a b c) = (a < n) × (b < n)
 Between n (receive a b) = (a < n) × (b < n)
 Between n (start a) = a < n
 Between n (gate d a c) = a < n
-
-all-append : (P : Move → Type 0) (xs ys : List Move) → All P xs → All P ys → All P (xs ++ ys)
-all-append P [] ys h k = k
-all-append P (x ∷ xs) ys h k = (h .0, all-append P xs ys (h .1) k)
 
 moves-within : (n : ℕ) (cs : List Call) (s : Site) → All (Between n) cs → All (Within n) (moves cs s)
 moves-within n [] s h = tt

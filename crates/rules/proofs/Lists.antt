@@ -14,6 +14,10 @@ module _ {A : Type 0} where
   all-join P [] x h p = (p, tt)
   all-join P (y ∷ ys) x h p = (h .0, all-join P ys x (h .1) p)
 
+  pub all-append : (P : A → Type 0) (xs ys : List A) → All P xs → All P ys → All P (xs ++ ys)
+  all-append P [] ys h k = k
+  all-append P (x ∷ xs) ys h k = (h .0, all-append P xs ys (h .1) k)
+
   pub all-tail : (P : A → Type 0) (xs : List A) → All P xs → All P (tail xs)
   all-tail P [] h = tt
   all-tail P (x ∷ xs) h = h .1
