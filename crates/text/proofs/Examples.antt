@@ -2,7 +2,7 @@
 use mathlib.Core.Path.{_≡_, refl}
 use mathlib.Core.List.{[], _∷_}
 use Rattle.text.specs.Codes.{codes}
-use Rattle.text.specs.Text.{digitCode, bytesText, decimalText, refusedText}
+use Rattle.text.specs.Text.{digitCode, bytesText, columnText, refusedText}
 
 case-a : bytesText (
     0x28 ∷ 0x01 ∷ 0x80 ∷ 0x02 ∷ 0x00 ∷ 0x04 ∷ 0x80 ∷ 0x01 ∷ 0x00 ∷ 0x18 ∷ 0x00 ∷ 0x00 ∷ 0x00 ∷ 0x1E ∷ 0x02 ∷ 0x02 ∷ []
@@ -19,13 +19,19 @@ unfolding digitCode
 each-digit = refl
 
 refused-13 : refusedText 13 ≡ codes "refused 13\n"
-unfolding digitCode decimalText
+unfolding digitCode
 refused-13 = refl
 
 refused-4 : refusedText 4 ≡ codes "refused 4\n"
-unfolding digitCode decimalText
+unfolding digitCode
 refused-4 = refl
 
 refused-255 : refusedText 255 ≡ codes "refused 255\n"
-unfolding digitCode decimalText
+unfolding digitCode
 refused-255 = refl
+
+-- Columns: of one digit, of as many as there are places, of 0, of more than there are places, and without a place.
+columns : (columnText 4 2 ≡ codes "   2") × (columnText 6 65790 ≡ codes " 65790") × (columnText 4 1000 ≡ codes "1000") × (columnText 4 0 ≡ codes "   0")
+    × (columnText 6 320280 ≡ codes "320280") × (columnText 4 10203 ≡ codes "0203") × (columnText 0 7 ≡ [])
+unfolding digitCode columnText
+columns = (refl, refl, refl, refl, refl, refl, refl)

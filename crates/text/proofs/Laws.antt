@@ -5,7 +5,7 @@ use Prim.Native.Nat.{ℕ, suc, _+_, _-_, _*_, _/_, _%_, _<_, _≤_}
 use native.Mathlib.Omega.{arith}
 use lib.ListN.{length, drop, set, getD, length-append}
 use lib.Seq.{set-set, drop-cons, sets, sets-eq}
-use borrow.Author.Tests.{le-leb, lt-leb, lt-ltb, le-ltb}
+use borrow.Author.Tests.{le-leb, lt-leb}
 use Rattle.text.specs.Text.{space, lineFeed, digitCode, bytesText, decimalText, refusedWord, refusedText, Prints}
 
 printed : (text lent after : List ℕ) (r : ℕ) → length text ≤ length lent → r ≡ length text → after ≡ sets lent 0 text
@@ -20,7 +20,7 @@ not-printed text lent h =
     let fails = lt-leb (length text) (length lent) h in
     record { number = rw fails; bytes = rw fails }
 
-sets-append : (l : List ℕ) (i : ℕ) (xs ys : List ℕ) → sets l i (xs ++ ys) ≡ sets (sets l i xs) (i + length xs) ys
+pub sets-append : (l : List ℕ) (i : ℕ) (xs ys : List ℕ) → sets l i (xs ++ ys) ≡ sets (sets l i xs) (i + length xs) ys
 sets-append l i [] ys = let e : i + 0 ≡ i = omega arith in rw e
 sets-append l i (x ∷ xs) ys =
     let e : i + suc (length xs) ≡ suc i + length xs = omega arith in
@@ -71,33 +71,19 @@ shown-printed bs lent out end e h f =
 pub shown-not-printed : (bs lent : List ℕ) → length lent ≤ 3 * length bs - 1 → Prints (bytesText bs) lent lent 0
 shown-not-printed bs lent h = let n = text-length bs in not-printed (bytesText bs) lent (omega arith)
 
--- Numbers of one, two and three digits.
-pub one-digit : (n : ℕ) → n < 10 → decimalText n ≡ digitCode n ∷ []
-unfolding decimalText
-one-digit n h = rw (lt-ltb n 10 h)
-
-pub two-digits : (n : ℕ) → 10 ≤ n → n < 100 → decimalText n ≡ digitCode (n / 10) ∷ digitCode (n % 10) ∷ []
-unfolding decimalText
-two-digits n h k = rw (le-ltb n 10 h, lt-ltb n 100 k)
-
-pub three-digits : (n : ℕ) → 10 ≤ n → 100 ≤ n
-    → decimalText n ≡ digitCode (n / 100) ∷ digitCode (n / 10 % 10) ∷ digitCode (n % 10) ∷ []
-unfolding decimalText
-three-digits n h k = rw (le-ltb n 10 h, le-ltb n 100 k)
-
 -- The parts of a refusal's text, stored one after another.
-pub refused-length : (n : ℕ) → length (refusedText n) ≡ 8 + length (decimalText n) + 1
-refused-length n = omega (arith, length-append (decimalText n) (lineFeed ∷ []))
+pub refused-length : (n : ℕ) → length (refusedText n) ≡ 8 + length (decimalText 3 n) + 1
+refused-length n = omega (arith, length-append (decimalText 3 n) (lineFeed ∷ []))
 
-pub refused-printed : (n : ℕ) (lent word decimal : List ℕ) (size : ℕ) → size ≡ length (decimalText n) → 8 + size < length lent
-    → word ≡ sets lent 0 refusedWord → decimal ≡ sets word 8 (decimalText n)
+pub refused-printed : (n : ℕ) (lent word decimal : List ℕ) (size : ℕ) → size ≡ length (decimalText 3 n) → 8 + size < length lent
+    → word ≡ sets lent 0 refusedWord → decimal ≡ sets word 8 (decimalText 3 n)
     → Prints (refusedText n) lent (set decimal (8 + size) lineFeed) (8 + size + 1)
 refused-printed n lent word decimal size s h e f =
     printed (refusedText n) lent (set decimal (8 + size) lineFeed) (8 + size + 1) (omega (arith, refused-length n))
     (omega (arith, refused-length n))
-    (rw (f, e, s) (sym (sets-append lent 0 refusedWord (decimalText n ++ (lineFeed ∷ []))
-    ∙ sets-append (sets lent 0 refusedWord) 8 (decimalText n) (lineFeed ∷ []))))
+    (rw (f, e, s) (sym (sets-append lent 0 refusedWord (decimalText 3 n ++ (lineFeed ∷ []))
+    ∙ sets-append (sets lent 0 refusedWord) 8 (decimalText 3 n) (lineFeed ∷ []))))
 
-pub refused-not-printed : (n : ℕ) (lent : List ℕ) (size : ℕ) → size ≡ length (decimalText n) → length lent ≤ 8 + size
+pub refused-not-printed : (n : ℕ) (lent : List ℕ) (size : ℕ) → size ≡ length (decimalText 3 n) → length lent ≤ 8 + size
     → Prints (refusedText n) lent lent 0
 refused-not-printed n lent size s h = not-printed (refusedText n) lent (omega (arith, refused-length n))

@@ -1,9 +1,11 @@
-// The text that the program prints, written to lent bytes. Where these are too few nothing is written, and the answer is 0.
+// The text that the programs print, written to lent bytes: bytes as digits, refusals, numbers in columns. Where the bytes that are lent for a
+// text are too few nothing is written, and the answer is 0.
 ghost use mathlib.Core.Path.{_≡_};
 ghost use Prim.Native.Nat.{_+_, _<_, _≤_};
 ghost use lib.ListN.{length};
 ghost use lib.Seq.{sets};
-ghost use Rattle.text.specs.Text.{digitCode, bytesText, decimalText, refusedWord, refusedText, Prints};
+ghost use Rattle.text.specs.Text.{digitCode, bytesText, decimalText, columnText, refusedWord, refusedText, Prints};
+ghost use Rattle.text.specs.InnerColumn.{placeCode};
 
 // The character of a digit.
 fn digit(d: u8) -> u8
@@ -51,34 +53,42 @@ fn word(out: &mut [u8])
     out[7] = b' ';
 }
 
+// The character at a place of a column, by what is left of the number there: its digit, or a space where none is left. The last place has a
+// digit always.
+fn place(last: bool, left: u32) -> u8
+    ensures { λ r. ⌜ r ≡ placeCode last left ⌝ }
+{
+    if last | (left != 0) {
+        digit((left % 10) as u8)
+    } else {
+        b' '
+    }
+}
+
+// A number right-aligned in the lent bytes, in decimal, with spaces in front. Digits for which there is no place are left out.
+pub fn column(n: u32, out: &mut [u8])
+    ensures { λ r. ⌜ now (out .exit) ≡ columnText (length (now (out .entry))) n ⌝ }
+{
+    let width = out.len();
+    let mut left = n;
+    let mut at = width;
+    while at != 0 {
+        let c = place(at == width, left);
+        at -= 1;
+        out[at] = c;
+        left = left / 10;
+    }
+}
+
 // The number of decimal digits.
 fn size(n: u8) -> usize
-    ensures { λ r. ⌜ (r ≡ length (decimalText n)) × (r ≤ 3) ⌝ }
+    ensures { λ r. ⌜ (r ≡ length (decimalText 3 n)) × (r ≤ 3) ⌝ }
 {
     if n < 10 {
         1
     } else {
         if n < 100 { 2 } else { 3 }
     }
-}
-
-// A number in decimal, behind the word.
-fn decimal(n: u8, out: &mut [u8])
-    requires { ⌜ 8 + length (decimalText n) ≤ length (now out) ⌝ }
-    ensures { λ r. ⌜ now (out .exit) ≡ sets (now (out .entry)) 8 (decimalText n) ⌝ }
-{
-    if n < 10 {
-        out[8] = digit(n);
-        return;
-    }
-    if n < 100 {
-        out[8] = digit(n / 10);
-        out[9] = digit(n % 10);
-        return;
-    }
-    out[8] = digit(n / 100);
-    out[9] = digit(n / 10 % 10);
-    out[10] = digit(n % 10);
 }
 
 // The text of a refusal; the answer is the number of characters.
@@ -90,7 +100,7 @@ pub fn refused(n: u8, out: &mut [u8]) -> usize
         return 0;
     }
     word(out);
-    decimal(n, out);
+    column(n as u32, &mut out[8..last]);
     out[last] = b'\n';
     last + 1
 }

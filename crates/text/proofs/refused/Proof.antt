@@ -1,9 +1,12 @@
 -- `refused` meets its contract: its stores are those of the word, the digits and the line feed.
-use mathlib.Core.Path.{_∙_, ap}
+use mathlib.Core.Path.{_≡_, _∙_, ap}
+use Prim.Native.Nat.{_+_, _-_}
 use native.Mathlib.Omega.{arith}
 use lib.ListN.{length, length-set}
-use lib.Seq.{length-sets}
-use Rattle.text.specs.Text.{decimalText, refusedWord}
+use lib.Seq.{sets, length-sets}
+use borrow.Rule.Slice.PartMut.{putMid}
+use Rattle.text.specs.Text.{lineFeed, decimalText, refusedWord}
+use Rattle.text.proofs.Columns.{digits-stored}
 use Rattle.text.proofs.Laws.{refused-printed, refused-not-printed}
 use borrow.Author.Needs.{needs}
 use Rattle.text.proofs.refused.Statement.{statement}
@@ -16,11 +19,28 @@ start c = c .before .before .before
 abbrev room : tie.After-word → tie.Else1
 room c = c .before .before
 
-abbrev worded : tie.After-decimal → tie.After-word
+abbrev worded : tie.After-column → tie.After-word
 worded c = c .before .before .before .before
 
-abbrev written : tie.After-slice-known3 → tie.After-decimal
+abbrev written : tie.After-slice-known3 → tie.After-column
 written c = c .before .before
+
+-- The word and the digits, stored one after the other.
+module _ (c : tie.After-slice-known3) where
+  abbrev asked : tie.Else1
+  asked = room (worded (written c))
+
+  same : length (worded (written c) .word .last .0) ≡ length (start asked .args .out .now)
+  same = ap length (worded (written c) .word .ensures) ∙ length-sets (start asked .args .out .now) 0 refusedWord
+
+  stored : let size = asked .before .size .result in
+      let w = worded (written c) .word .last .0 in
+      putMid 8 (8 + size - 8) w (written c .column .last .1 .0) ≡ sets w 8 (decimalText 3 (start asked .args .n))
+  stored =
+      let w = worded (written c) .word .last .0 in
+      let s = asked .before .size in
+      digits-stored 8 (start asked .args .n) (s .result) w (written c .column .last .1 .0) (s .ensures .0) (omega (arith, same, asked .if1 .left))
+      (written c .column .ensures)
 
 size-requires : tie.Need-size-requires
 size-requires c κs = search needs
@@ -37,8 +57,17 @@ returns c =
 word-requires : tie.Need-word-requires
 word-requires c κs = search needs
 
-decimal-requires : tie.Need-decimal-requires
-decimal-requires c κs = search needs
+sub-column : tie.Need-sub-column
+sub-column c = search needs
+
+part-column-start : tie.Need-part-column-start
+part-column-start c = search needs
+
+part-column-end : tie.Need-part-column-end
+part-column-end c = search needs
+
+column-requires : tie.Need-column-requires
+column-requires c κs = search needs
 
 slice-write-out : tie.Need-slice-write-out
 slice-write-out c = search needs
@@ -48,21 +77,19 @@ add-result c = search needs
 
 same-length : tie.Need-same-length
 same-length c =
-    let w = worded (written c) .word in
-    let d = written c .decimal in
-    let a = start (room (worded (written c))) .args in
-    length-set (d .last .1 .0) _ _ ∙ ap length (d .ensures) ∙ length-sets (w .last .0) 8 (decimalText (a .n)) ∙ ap length (w .ensures)
-    ∙ length-sets (a .out .now) 0 refusedWord
+    let r = asked c in
+    let w = worded (written c) .word .last .0 in
+    let size = r .before .size .result in
+    length-set (putMid 8 (8 + size - 8) w (written c .column .last .1 .0)) (8 + size) lineFeed ∙ ap length (stored c)
+    ∙ length-sets w 8 (decimalText 3 (start r .args .n)) ∙ same c
 
 returns-2 : tie.Need-returns-2
 returns-2 c =
-    let w = worded (written c) .word in
-    let d = written c .decimal in
-    let r = room (worded (written c)) in
+    let r = asked c in
     let s = r .before .size in
     let a = start r .args in
-    refused-printed (a .n) (a .out .now) (w .last .0) (d .last .1 .0) (s .result) (s .ensures .0)
-    (r .if1 .left) (w .ensures) (d .ensures)
+    refused-printed (a .n) (a .out .now) (worded (written c) .word .last .0) _ (s .result) (s .ensures .0)
+    (r .if1 .left) (worded (written c) .word .ensures) (stored c)
 
 pub refused-spec : {M : Type 1} → statement M
 refused-spec =
@@ -72,7 +99,10 @@ refused-spec =
     add-last
     returns
     word-requires
-    decimal-requires
+    sub-column
+    part-column-start
+    part-column-end
+    column-requires
     slice-write-out
     add-result
     same-length
