@@ -1,0 +1,7 @@
+pub mod Lines
+pub mod LineFeeds
+pub mod ReadBack
+pub mod Enough
+pub mod Whole
+pub mod Outcome
+pub mod Examples

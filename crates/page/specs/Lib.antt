@@ -1,0 +1,4 @@
+pub mod Layout
+pub mod Call
+pub mod Journal
+pub mod Claims

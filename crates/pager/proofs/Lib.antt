@@ -1,0 +1,5 @@
+pub mod Stored
+pub mod Joined
+pub mod Tables
+pub mod Shown
+pub mod Called
