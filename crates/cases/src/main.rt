@@ -1,10 +1,11 @@
-// Reads journals, each behind its length in 16 bits, high byte first, and prints the text of each: the stored journals and lines are those
-// of the second implementation.
+// Reads journals, each behind its length in 16 bits, high byte first, and prints the texts of each, that of its recording and that of its page:
+// the stored journals and texts are those of the second implementation.
 ghost use Prim.Native.Nat.{_≤_};
 ghost use mathlib.Core.Path.{_≡_};
 ghost use lib.ListN.{length};
 use libc::STDIN_FILENO;
 use libc::STDOUT_FILENO;
+use page::PAGE_BYTES;
 use report::TEXT_BYTES;
 
 fn joined(high: u8, low: u8) -> usize {
@@ -20,7 +21,7 @@ fn fill(space: &mut [u8], n: usize) -> bool
     m == n
 }
 
-// One journal and its line; whether there was one. The longest stored journal has 2,774 bytes.
+// One journal and its texts; whether there was one. The longest stored journal has 2,774 bytes.
 fn one() -> bool {
     let mut head = [0u8; 2];
     if !fill(&mut head, 2) {
@@ -35,13 +36,21 @@ fn one() -> bool {
         return false;
     }
     print(&space[0..n]);
+    print_page(&space[0..n]);
     true
 }
 
-// The line of one journal.
+// The line of a journal's recording.
 fn print(journal: &[u8]) {
     let mut out = [0u8; TEXT_BYTES];
     let m = report::report(journal, &mut out);
+    io::write_all(STDOUT_FILENO, &out[..m]);
+}
+
+// The page of a journal.
+fn print_page(journal: &[u8]) {
+    let mut out = [0u8; PAGE_BYTES];
+    let m = report::page_text(journal, &mut out);
     io::write_all(STDOUT_FILENO, &out[..m]);
 }
 

@@ -3,10 +3,11 @@ use mathlib.Core.Bool.{Bool, true, false, cond}
 use mathlib.Core.List.{List, [], _∷_}
 use Prim.Native.Nat.{ℕ, zero, suc, _*_, _≤_}
 use native.Mathlib.Omega.{arith}
-use lib.Dec.{eqb, ltb}
+use lib.Dec.{eqb}
 use lib.ListN.{length, take, replicate, length-replicate}
 use Rattle.recording.specs.Journal.{recordJournal}
-use Rattle.text.specs.Text.{bytesText, decimalText, refusedText}
+use Rattle.text.specs.Text.{bytesText, refusedText}
+use Rattle.text.proofs.Columns.{digits-few}
 use Rattle.text.proofs.Laws.{text-length, refused-length}
 use Rattle.report.specs.Report.{reportText}
 use Rattle.report.proofs.Laws.{written-fits}
@@ -25,12 +26,8 @@ either-fits false xs ys n h k = k
 shown-fits : (bs : List ℕ) (n : ℕ) → length bs ≤ n → 1 ≤ n → length (bytesText bs) ≤ 3 * n
 shown-fits bs n h k = omega (arith, text-length bs)
 
-pub decimal-fits : (n : ℕ) → length (decimalText n) ≤ 3
-unfolding decimalText
-decimal-fits n = either-fits (ltb n 10) _ _ 3 (omega arith) (either-fits (ltb n 100) _ _ 3 (omega arith) (omega arith))
-
 pub refused-fits : (n : ℕ) → length (refusedText n) ≤ 12
-refused-fits n = omega (arith, refused-length n, decimal-fits n)
+refused-fits n = omega (arith, refused-length n, digits-few 3 n)
 
 pub report-fits : (journal : List ℕ) → length (reportText journal) ≤ 6102
 unfolding reportText

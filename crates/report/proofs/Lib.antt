@@ -2,3 +2,4 @@ pub mod Laws
 pub mod Within
 pub mod Enough
 pub mod Overlong
+pub mod Wall

@@ -8,6 +8,9 @@ use Rattle.cut_recorder.proofs.main.Tie as tie
 slice-aggregate-read : tie.Need-slice-aggregate-read
 slice-aggregate-read c = search needs
 
+slice-aggregate-read-2 : tie.Need-slice-aggregate-read-2
+slice-aggregate-read-2 c = search needs
+
 read-requires : tie.Need-read-requires
 read-requires c κs = search needs
 
@@ -16,12 +19,6 @@ enum-known-input c = search needs
 
 enum-told : tie.Need-enum-told
 enum-told c = search needs
-
-slice-aggregate-write-all : tie.Need-slice-aggregate-write-all
-slice-aggregate-write-all c = search needs
-
-write-all-requires : tie.Need-write-all-requires
-write-all-requires c κs = search needs
 
 returns : tie.Need-returns
 returns c = search needs
@@ -35,33 +32,20 @@ slice-aggregate-print c = sym (length-take-le _ _ (array-share-prefix-space (c .
 print-requires : tie.Need-print-requires
 print-requires c κs = search needs
 
-slice-aggregate-write-all-2 : tie.Need-slice-aggregate-write-all-2
-slice-aggregate-write-all-2 c = search needs
-
-write-all-requires-2 : tie.Need-write-all-requires-2
-write-all-requires-2 c κs = search needs
-
 returns-2 : tie.Need-returns-2
 returns-2 c = search needs
-
-returns-3 : tie.Need-returns-3
-returns-3 c = search needs
 
 pub main-spec : {M : Type 1} → statement M
 main-spec =
     tie.close
     (tie.spec
     slice-aggregate-read
+    slice-aggregate-read-2
     read-requires
     enum-known-input
     enum-told
-    slice-aggregate-write-all
-    write-all-requires
     returns
     array-share-prefix-space
     slice-aggregate-print
     print-requires
-    slice-aggregate-write-all-2
-    write-all-requires-2
-    returns-2
-    returns-3)
+    returns-2)

@@ -10,14 +10,17 @@ slice-aggregate-report c = search needs
 report-requires : tie.Need-report-requires
 report-requires c κs = search needs
 
+slice-aggregate-write : tie.Need-slice-aggregate-write
+slice-aggregate-write c = search needs
+
 array-share-prefix-out : tie.Need-array-share-prefix-out
-array-share-prefix-out c = prints-within _ _ _ _ (c .before .report .ensures)
+array-share-prefix-out c = prints-within _ _ _ _ (c .before .before .report .ensures)
 
-slice-aggregate-write-all : tie.Need-slice-aggregate-write-all
-slice-aggregate-write-all c = prints-taken _ _ _ _ (c .before .before .report .ensures)
+slice-aggregate-write-2 : tie.Need-slice-aggregate-write-2
+slice-aggregate-write-2 c = prints-taken _ _ _ _ (c .before .before .before .report .ensures)
 
-write-all-requires : tie.Need-write-all-requires
-write-all-requires c κs = search needs
+write-requires : tie.Need-write-requires
+write-requires c κs = search needs
 
 returns : tie.Need-returns
 returns c = search needs
@@ -28,7 +31,8 @@ print-spec =
     (tie.spec
     slice-aggregate-report
     report-requires
+    slice-aggregate-write
     array-share-prefix-out
-    slice-aggregate-write-all
-    write-all-requires
+    slice-aggregate-write-2
+    write-requires
     returns)

@@ -1,12 +1,12 @@
--- `cut_recorder::read` meets its contract. The loop's invariant: the bytes that are there lie within the space. The measure is the space left.
+-- `console::read_all` meets its contract. The loop's invariant: the bytes that are there lie within the space. The measure is the space left.
 use mathlib.Core.Path.{_≡_}
 use Prim.Native.Nat.{_≤_, _-_}
 use native.Mathlib.Omega.{arith}
 use lib.ListN.{length}
-use Rattle.cut_recorder.proofs.Laws.{bytes-count, failed-count}
+use Rattle.console.proofs.Laws.{bytes-count, failed-count}
 use borrow.Author.Needs.{needs}
-use Rattle.cut_recorder.proofs.read.Statement.{statement}
-use Rattle.cut_recorder.proofs.read.Tie as tie
+use Rattle.console.proofs.read_all.Statement.{statement}
+use Rattle.console.proofs.read_all.Tie as tie
 
 abbrev Inv-loop : tie.InvT-loop
 Inv-loop space₀ at₀ space at = (at ≤ length space) × (length space ≡ length space₀)
@@ -66,8 +66,8 @@ same-length-3 c = search needs
 returns-3 : tie.Need-returns-3 Inv-loop μ-loop
 returns-3 c = λ n e. omega (arith, bytes-count _ _ e)
 
-pub read-spec : {M : Type 1} → statement M
-read-spec =
+pub read-all-spec : {M : Type 1} → statement M
+read-all-spec =
     tie.close
     (tie.spec
     Inv-loop

@@ -1,12 +1,12 @@
--- `cut_recorder::input_of` meets its contract: the sign of the answer decides.
+-- `console::input_of` meets its contract: the sign of the answer decides.
 use mathlib.Core.Path.{_≡_}
 use mir.Facts.{toZ-ofZ}
 use mir.Syntax.{w64}
 use mir.Val.{toZ, ofZ}
-use Rattle.cut_recorder.proofs.Laws.{failed-input, bytes-input}
+use Rattle.console.proofs.Laws.{failed-input, bytes-input}
 use borrow.Author.Needs.{needs}
-use Rattle.cut_recorder.proofs.input_of.Statement.{statement}
-use Rattle.cut_recorder.proofs.input_of.Tie as tie
+use Rattle.console.proofs.input_of.Statement.{statement}
+use Rattle.console.proofs.input_of.Tie as tie
 
 -- The answer as the machine reads it back from its bits.
 read-back : (c : tie.Start) → toZ w64 (ofZ w64 (c .args .got)) ≡ c .args .got

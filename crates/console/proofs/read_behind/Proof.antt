@@ -1,10 +1,10 @@
--- `cut_recorder::read_behind` meets its contract: what is read is counted within the lent part, and the front is not lent.
+-- `console::read_behind` meets its contract: what is read is counted within the lent part, and the front is not lent.
 use mathlib.Core.Path.{sym, _∙_}
 use native.Mathlib.Omega.{arith}
-use Rattle.cut_recorder.proofs.Laws.{input-within, front-kept}
+use Rattle.console.proofs.Laws.{input-within, front-kept}
 use borrow.Author.Needs.{needs}
-use Rattle.cut_recorder.proofs.read_behind.Statement.{statement}
-use Rattle.cut_recorder.proofs.read_behind.Tie as tie
+use Rattle.console.proofs.read_behind.Statement.{statement}
+use Rattle.console.proofs.read_behind.Tie as tie
 
 -- Landmarks: the read done; the entry.
 abbrev done : tie.After-input-of → tie.After-read

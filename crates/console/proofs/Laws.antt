@@ -10,9 +10,9 @@ use lib.ListN.{length, take}
 use borrow.Author.Tests.{ltb-true}
 use borrow.Rule.Slice.PartMut.{putMid, take-put}
 use Rattle.io.specs.Counts.{clamped}
-use Rattle.cut_recorder.specs.Input.{inputOf}
-use Rattle.cut_recorder.specs.declared.Input.{Input}
-use Rattle.cut_recorder.specs.declared.Input.the-variants.{Bytes, Failed}
+use Rattle.console.specs.Input.{inputOf}
+use Rattle.console.specs.declared.Input.{Input}
+use Rattle.console.specs.declared.Input.the-variants.{Bytes, Failed}
 
 -- The bytes counted; none where a read failed.
 abbrev counted : Input → ℕ
