@@ -1,5 +1,5 @@
-// The headers from C++: a zone and a site are opened, the site without stocks too, cars drive in and out, and one refusal of each is met. Exits 1
-// if a value is not as it must be.
+// The headers from C++: a zone and a site are opened, the site without stocks too, cars drive in and out, one refusal of each is met, and a page
+// is written. Exits 1 if a value is not as it must be.
 #include <cstdio>
 #include <cstdlib>
 #include <cstring>
@@ -34,6 +34,12 @@ int main()
     const cut_received received = cut_receive(&run, 1, 2);
     must(received.refusal == CUT_REFUSED_CHANNEL_EMPTY && received.remaining == 0, "nothing is on the line from 1 to 2");
     must(std::strcmp(cut_refusal_words(received.refusal), "the line is empty") == 0, "its words");
+
+    std::string page(CUT_PAGE_BYTES, '?');
+    must(cut_start(&run, 1) == CUT_ACCEPTED, "zone 1 starts");
+    const cut_written shown = cut_page(&run, reinterpret_cast<std::uint8_t *>(&page[0]), page.size());
+    page.resize(shown.written);
+    must(shown.refusal == CUT_ACCEPTED && page.substr(0, 17) == "Z1 F    0      0\n" && page.size() == 9 * 17, "its page has a line a zone, and the total");
 
     const std::string version =
         std::to_string(CUT_VERSION_MAJOR) + "." + std::to_string(CUT_VERSION_MINOR) + "." + std::to_string(CUT_VERSION_PATCH);

@@ -1,6 +1,6 @@
-/* A control room's desk: a whole run of three zones with 10, 20 and 30 cars, from the opening to the recording's bytes, then the same from
- * the journal alone, line checks, street entrances, a sign controller and empty sites. Prints the recording and its total; exits 1 if a value is not
- * as it must be. */
+/* A control room's desk: a whole run of three zones with 10, 20 and 30 cars, from the opening to the recording's bytes and its page, then the same
+ * from the journal alone, line checks, street entrances, a sign controller and empty sites. Prints the recording with its total, and the page; exits
+ * 1 if a value is not as it must be. */
 #include <inttypes.h>
 #include <stdio.h>
 #include <stdlib.h>
@@ -12,6 +12,12 @@ static const uint8_t journal[] = {0x28, 0x09, 0x00, 0x0A, 0x00, 0x14, 0x00, 0x1E
                                   0x05, 0x02, 0x02, 0x88, 0x00, 0x0A, 0x07, 0x4A, 0x00, 0x42, 0x00, 0x48, 0x00};
 static const uint8_t recording[] = {0x28, 0x01, 0x80, 0x02, 0x00, 0x04, 0x80, 0x01,
                                     0x00, 0x18, 0x00, 0x00, 0x00, 0x1E, 0x02, 0x02};
+
+static const char page[] = "Z1 F    2      4\n"
+                           "Z2 F    1     24\n"
+                           "Z3 -    0     30\n"
+                           "L13     1      2\n"
+                           "T             60\n";
 
 static cut_run run;
 
@@ -188,6 +194,24 @@ static void empty(void)
     must(cut_open(&other, 7, 3, NULL, 0) == CUT_REFUSED_EDITION, "and edition 7");
 }
 
+/* The page for the wall: lent enough bytes, one too few, and five more, which stay as they were; and from the journal. */
+static void pinned_up(void)
+{
+    char text[CUT_PAGE_BYTES];
+    const size_t size = sizeof page - 1;
+    memset(text, '?', sizeof text);
+    must(cut_page(&run, (uint8_t *)text, size - 1).refusal == CUT_REFUSED_TOO_FEW_BYTES && text[0] == '?', "a byte too few is refused");
+    cut_written w = cut_page(&run, (uint8_t *)text, size + 5);
+    must(w.refusal == CUT_ACCEPTED && w.written == size && w.total == 0, "the page is written");
+    must(memcmp(text, page, size) == 0 && memcmp(text + size, "?????", 5) == 0, "as worked out by hand, and nothing behind it");
+    memset(text, '?', sizeof text);
+    w = cut_journal_page(journal, sizeof journal, (uint8_t *)text, sizeof text);
+    must(w.refusal == CUT_ACCEPTED && w.written == size && memcmp(text, page, size) == 0, "the journal's page is the same");
+    w = cut_journal_page(journal, sizeof journal - 1, (uint8_t *)text, sizeof text);
+    must(w.refusal == CUT_REFUSED_LENGTH && w.written == 0, "a cut journal is refused");
+    printf("%.*s", (int)size, text);
+}
+
 int main(void)
 {
     const uint16_t stocks[] = {10, 20, 30};
@@ -222,5 +246,6 @@ int main(void)
     for (size_t i = 0; i < w.written; i++)
         printf(i == 0 ? "%02X" : " %02X", bytes[i]);
     printf(", total %" PRIu32 "\n", w.total);
+    pinned_up();
     return 0;
 }

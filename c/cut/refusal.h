@@ -10,9 +10,9 @@
 /* The version of the calls and structs. The major number, which is the library's soname too, is raised when a program would have to be
  * changed or compiled anew. */
 #define CUT_VERSION_MAJOR 3
-#define CUT_VERSION_MINOR 1
+#define CUT_VERSION_MINOR 2
 #define CUT_VERSION_PATCH 0
-#define CUT_VERSION "3.1.0"
+#define CUT_VERSION "3.2.0"
 
 /* The first and the last "edition" of zones, runs, journals and recordings that this version knows. An opening that names another one and a
  * journal of another one are refused with 15, a zone or a run of another one with 1.

@@ -1,4 +1,4 @@
-/* The Cut Recorder's site engine, journal and recording, for programs in C and C++; docs/INTEGRATION.md says how to use them.
+/* The Cut Recorder's site engine, journal, recording and page, for programs in C and C++; docs/INTEGRATION.md says how to use them.
  *
  * A control room keeps one cut_run and passes it to each call:
  *
@@ -14,14 +14,14 @@
  *
  * A run is sound where edition is 1 to 3, count is 2 to 8, records is at most 1,000, no zone of the site has more own events than there are
  * records, every set of its zones and requests names only zones of the site, no channel ("line") has more than 16 items, stocks and cars on
- * channels are at most 65,535 together, and no mark is above 2. Recording and journal writing also ask whether the run is what its journal
- * replays to under its edition. A call on any other run is refused with 1.
+ * channels are at most 65,535 together, and no mark is above 2. Recording, page and journal writing also ask whether the run is what its
+ * journal replays to under its edition. A call on any other run is refused with 1.
  *
  * The calls keep no state of their own, allocate nothing, never block and always return, so that threads may call at once on different runs;
- * cut_record and cut_write only read theirs, and may share it. The header is C11 or C++11, the library for x86-64 with System V calls; of
+ * cut_record, cut_page and cut_write only read theirs, and may share it. The header is C11 or C++11, the library for x86-64 with System V calls; of
  * the C library it uses memcpy and memset.
  *
- * Whoever has a journal and wants its recording needs cut_journal_record alone.
+ * Whoever has a journal and wants its recording needs cut_journal_record alone, or cut_journal_page for its page, which a person reads.
  *
  * Journal and recording are 16-bit words, high byte first.
  * Journal: edition * 8192 + (zones - 1) * 1024 + number of records; the opening stock of each zone; a word a record:
@@ -31,7 +31,13 @@
  * an "exit".
  * Recording: edition * 8192 + (zones - 1) * 1024 + number of items; for each zone 32768 where it is permanent ("firm") plus its events, then
  * its stock; then each item on a channel as a record of kind 0, by sender, then receiver, then order sent; from edition 2 on those with
- * cars. */
+ * cars.
+ *
+ * The "page for the wall" is text: what the recording shows, in lines of 16 characters and a line feed each, the numbers right-aligned.
+ *     Z1 F    2      4    zone 1, firm (- where it is not); its events, its stock
+ *     L13     1      2    the channel ("line") from zone 1 to zone 3: its items, their cars; a channel without items has no line
+ *     T             60    the recorded total
+ * First the zones, then the channels by sender, then receiver, then the total. No 0 byte stands at its end. */
 #ifndef CUT_SITE_H
 #define CUT_SITE_H
 
@@ -53,14 +59,19 @@ extern "C" {
 #define CUT_JOURNAL_BYTES 2018
 #define CUT_RECORDING_BYTES 2034
 
+/* Bytes that are enough for any page: 17 for each of 8 zones and of the 56 channels ("lines") between them, and for the total. */
+#define CUT_PAGE_BYTES 1105
+
 /* Bytes of stack that are enough for a call, as in <cut/zone.h>: cut_open; cut_send, cut_receive, cut_start, cut_enter and cut_leave;
- * cut_record; cut_write; and the two calls on a journal. */
+ * cut_record; cut_page; cut_write; and the three calls on a journal. */
 #define CUT_OPEN_STACK 4608
 #define CUT_CALL_STACK 2048
 #define CUT_RECORD_STACK 36864
+#define CUT_PAGE_STACK 38912
 #define CUT_WRITE_STACK 38912
 #define CUT_JOURNAL_READ_STACK 22528
 #define CUT_JOURNAL_RECORD_STACK 18432
+#define CUT_JOURNAL_PAGE_STACK 20480
 
 /* A "zone" of a run. 10 bytes, alignment 2. */
 typedef struct cut_local {
@@ -139,8 +150,8 @@ typedef struct cut_reading {
 typedef struct cut_written {
     uint8_t refusal; /* the "refusal", an enum cut_refusal */
     uint32_t total;  /* "the recorded total" of cut_record and cut_journal_record: the cars of the recording's stocks and items together;
-                        0 of cut_write */
-    size_t position; /* of cut_journal_record, as in a cut_reading; else 0 */
+                        0 of the others */
+    size_t position; /* of cut_journal_record and cut_journal_page, as in a cut_reading; else 0 */
     size_t written;  /* "the number of bytes written" to the front of out; bytes behind them keep what they had */
 } cut_written;
 
@@ -160,6 +171,7 @@ CUT_STATIC_ASSERT(offsetof(cut_written, total) == 4 && offsetof(cut_written, pos
 CUT_STATIC_ASSERT(offsetof(cut_written, written) == 16, "the layout that the library has");
 CUT_STATIC_ASSERT(CUT_JOURNAL_BYTES == 2 + 2 * CUT_ZONES_MAX + 2 * CUT_RECORDS_MAX, "a word a zone and a word a record");
 CUT_STATIC_ASSERT(CUT_RECORDING_BYTES == 2 + 4 * CUT_ZONES_MAX + 2 * CUT_RECORDS_MAX, "two words a zone, and no more items than records");
+CUT_STATIC_ASSERT(CUT_PAGE_BYTES == 17 * (CUT_ZONES_MAX + CUT_ZONES_MAX * (CUT_ZONES_MAX - 1) + 1), "a line a zone, a line a channel, the total");
 
 /* The library's functions over the parts of a run: its head by value (100 bytes) and its arrays by pointer (1,024 words, 64 bytes and 1,000
  * words). Programs use the calls on a cut_run below them, which take the same and say what is refused. */
@@ -185,6 +197,9 @@ cut_head_answer cut_site_leave(cut_head head, uint16_t *items, uint8_t *lens, ui
 /* cut_record ("recording"). Stack: CUT_RECORD_STACK. */
 cut_written cut_site_record(cut_head head, const uint16_t *items, const uint8_t *lens, const uint16_t *journal, uint8_t *out, size_t size);
 
+/* cut_page ("a page for the wall"). Stack: CUT_PAGE_STACK. */
+cut_written cut_site_page(cut_head head, const uint16_t *items, const uint8_t *lens, const uint16_t *journal, uint8_t *out, size_t size);
+
 /* cut_write ("journal writing"). Stack: CUT_WRITE_STACK. */
 cut_written cut_journal_write(cut_head head, const uint16_t *items, const uint8_t *lens, const uint16_t *journal, uint8_t *out, size_t size);
 
@@ -197,6 +212,10 @@ cut_reading cut_journal_read(const uint8_t *bytes, size_t size);
 /* Reads a journal of `size` bytes and writes its snapshot ("recording") to `room` bytes; CUT_RECORDING_BYTES are enough. It answers the
  * recorded total too. Refused with: reading's numbers, then 12, 13, 14. Stack: CUT_JOURNAL_RECORD_STACK. */
 cut_written cut_journal_record(const uint8_t *bytes, size_t size, uint8_t *out, size_t room);
+
+/* Reads a journal of `size` bytes and writes the page of its recording ("a page for the wall") to `room` bytes; CUT_PAGE_BYTES are enough.
+ * Refused with: reading's numbers, then 12, 13, 14. Stack: CUT_JOURNAL_PAGE_STACK. */
+cut_written cut_journal_page(const uint8_t *bytes, size_t size, uint8_t *out, size_t room);
 
 /* Opens a site of `count` zones with their n stocks under an edition ("open"). Where n is 0 it opens an empty one, with stock 0 in every zone:
  * stocks may then be null, and what it names is read by nobody. Refused with: 15 the edition is not 1 to 3; 2 the count is not 2 to 8; 3 n is
@@ -274,6 +293,13 @@ static inline uint8_t cut_leave(cut_run *run, uint8_t zone, uint8_t cars)
 static inline cut_written cut_record(const cut_run *run, uint8_t *out, size_t size)
 {
     return cut_site_record(run->head, run->items, run->lens, run->journal, out, size);
+}
+
+/* Writes the page of the recording ("a page for the wall") to `size` bytes, as text; CUT_PAGE_BYTES are enough. Refused with: 1 as above; 12;
+ * 13; 14 too few bytes are lent for the page. Stack: CUT_PAGE_STACK. */
+static inline cut_written cut_page(const cut_run *run, uint8_t *out, size_t size)
+{
+    return cut_site_page(run->head, run->items, run->lens, run->journal, out, size);
 }
 
 /* Writes the run's journal ("journal writing") to `size` bytes; CUT_JOURNAL_BYTES are enough. Refused with: 1 as above; 14. Stack:

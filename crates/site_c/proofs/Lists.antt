@@ -24,12 +24,13 @@ use Rattle.run.proofs.Remaining.{refused-none, open-none}
 use Rattle.run.proofs.Whole.{call-whole, after-whole, open-whole}
 use Rattle.journal.specs.Writing.{writeCall}
 use Rattle.journal.specs.Reading.{readCall}
+use Rattle.page.specs.Call.{pageCall}
 use Rattle.recording.specs.Call.{recordCall}
 use Rattle.recording.specs.Journal.{recordJournal}
 use Rattle.recording.proofs.Totals.{no-total, read-total, journal-no-total}
 use Rattle.zone_c.specs.Plain.{kindOf}
 use Rattle.zone_c.proofs.Laws.{mark-back}
-use Rattle.site_c.specs.Plain.{localOf, plainLocal, noPlain, plainAt, localsOf, plainLocals, areKinds, runOf, plainRun, plainAnswer, refusedPlain, answerPlain, openPlain, callPlain, afterPlain, plainOutput, plainRecording, PlainOutput, refusedPlainOutput, recordPlain, recordedPlain, writePlain, readPlain}
+use Rattle.site_c.specs.Plain.{localOf, plainLocal, noPlain, plainAt, localsOf, plainLocals, areKinds, runOf, plainRun, plainAnswer, refusedPlain, answerPlain, openPlain, callPlain, afterPlain, plainOutput, plainRecording, PlainOutput, refusedPlainOutput, recordPlain, recordedPlain, writePlain, pagePlain, readPlain}
 use Rattle.site_c.specs.declared.PlainAnswer.{PlainAnswer}
 use Rattle.site_c.specs.declared.PlainRun.{PlainRun}
 use Rattle.run.specs.Opening.{openCall, termsAs, openingAs}
@@ -155,6 +156,10 @@ record-plain-no-total p lent = go (areKinds (p .head .zones))
 pub journal-plain-no-total : (bytes lent : List ℕ) → recordedPlain (recordJournal bytes lent .answer) .refusal ≢ 0
     → recordedPlain (recordJournal bytes lent .answer) .total ≡ 0
 journal-plain-no-total = journal-no-total
+
+pub page-plain : (r : Run) (lent : List ℕ) → WholeRun r → pagePlain (plainRun r) lent ≡ plainOutput (pageCall r lent)
+unfolding pagePlain
+page-plain r lent w = rw (kinds (locals (r .head)), run-back r w)
 
 pub write-plain : (r : Run) (lent : List ℕ) → WholeRun r → writePlain (plainRun r) lent ≡ plainOutput (writeCall r lent)
 unfolding writePlain

@@ -12,6 +12,8 @@ use Rattle.run.specs.declared.Answer.{Answer}
 use Rattle.run.specs.declared.Run.{Run}
 use Rattle.journal.specs.Reading.{readCall}
 use Rattle.journal.specs.Writing.{Output, writeCall}
+use Rattle.journal.specs.declared.JournalWritten.{JournalWritten}
+use Rattle.page.specs.Call.{pageCall}
 use Rattle.journal.specs.declared.Written.{Written}
 use Rattle.recording.specs.Call.{RecordOutput, recordCall}
 use Rattle.site.specs.Lent.{runIn}
@@ -139,11 +141,17 @@ recordPlain p lent = cond (areKinds (p .head .zones)) (plainRecording (recordCal
 unfoldable pub writePlain : PlainRun → List ℕ → PlainOutput
 writePlain p lent = cond (areKinds (p .head .zones)) (plainOutput (writeCall (runOf p) lent)) (refusedPlainOutput lent 1 0)
 
+unfoldable pub pagePlain : PlainRun → List ℕ → PlainOutput
+pagePlain p lent = cond (areKinds (p .head .zones)) (plainOutput (pageCall (runOf p) lent)) (refusedPlainOutput lent 1 0)
+
 abbrev pub readPlain : List ℕ → PlainReading
 readPlain bytes =
     let t = readCall bytes in
     record { refusal = t .refusal; position = t .position; remaining = t .remaining; run = plainRun (t .run) }
 
--- A journal's recording.
+-- A journal's recording, and its page.
 abbrev pub recordedPlain : JournalRecorded → PlainWritten
 recordedPlain w = record { refusal = w .refusal; position = w .position; written = w .written; total = w .total }
+
+abbrev pub pagedPlain : JournalWritten → PlainWritten
+pagedPlain w = record { refusal = w .refusal; position = w .position; written = w .written; total = 0 }
