@@ -4,3 +4,4 @@ pub mod Three
 pub mod Premises
 pub mod Total
 pub mod Kept
+pub mod Paged

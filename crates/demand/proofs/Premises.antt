@@ -1,8 +1,8 @@
--- The premises of demand 3 are met: every list of calls can be made from every opening, every recording call has an answer, and case A, a
--- case with a line check in edition 2, one with gates in edition 3 and one from an opening without stocks are instances whose recordings are
--- complete.
+-- The premises of demand 3 are met: every list of calls can be made from every opening, every recording call and page call has an answer, and
+-- case A, with its page, a case with a line check in edition 2, one with gates in edition 3 and one from an opening without stocks are instances
+-- whose recordings are complete.
 use mathlib.Core.Path.{_≡_, refl, ap}
-use mathlib.Core.List.{List, [], _∷_}
+use mathlib.Core.List.{List, [], _∷_, _++_}
 use Prim.Native.Nat.{ℕ}
 use native.Mathlib.Omega.{arith}
 use lib.ListN.{take, replicate}
@@ -26,12 +26,19 @@ use Rattle.rules.specs.declared.Direction.the-variants.{In, Out}
 use Rattle.run.specs.declared.Terms.{Terms}
 use Rattle.journal.specs.Format.{journalBytes, decode}
 use Rattle.journal.specs.Reading.{readCall}
-use Rattle.journal.specs.Writing.{sameLocal, sameChannel, sameZones, sameChannels, sameState, replaysTo, isReplayed}
+use Rattle.journal.specs.Writing.{sameLocal, sameChannel, sameZones, sameChannels, sameState, replaysTo, isReplayed, Output}
 use Rattle.recording.specs.Call.{RecordOutput, noRequests, recordCall}
 use Rattle.recording.specs.Layout.{itemWords, recordingBytes}
 use Rattle.recording.specs.Shown.{shownIn}
-use Rattle.promises.specs.Answers.{OpenAnswers, RecordAnswers}
+use Rattle.text.specs.Codes.{codes}
+use Rattle.text.specs.Text.{digitCode, columnText}
+use Rattle.words.specs.Bytes.{wordAt}
+use Rattle.words.specs.Header.{zonesIn}
+use Rattle.page.specs.Call.{pageCall}
+use Rattle.page.specs.Layout.{zoneText, channelText, channelsText, totalText, pageWith}
+use Rattle.promises.specs.Answers.{OpenAnswers, RecordAnswers, PageAnswers}
 use Rattle.demand.specs.Made.{Made, done, then}
+use Rattle.demand.proofs.Paged.{page-demand}
 use Rattle.demand.proofs.Three.{demand-three}
 
 pub opens : (terms : Terms) (stocks : List ℕ) → OpenAnswers terms stocks (openCall (openingAs terms stocks))
@@ -56,6 +63,12 @@ recorded-cut o cs lent typed opened answered =
     let x = recordedBy o cs lent in
     demand-three (o .terms) (o .stocks) (openCall o) (opens (o .terms) (o .stocks)) opened cs _ r (makes cs (openCall o .run) typed)
     (replicate lent 0) (x .bytes) (x .answer) (records r (replicate lent 0)) .cut answered
+
+pub pages : (r : Run) (lent : List ℕ) → PageAnswers r lent (pageCall r lent .answer) (pageCall r lent .bytes)
+pages r lent = (refl, refl)
+
+abbrev pagedBy : Opening → List SiteCall → ℕ → Output
+pagedBy o cs lent = pageCall (after cs (openCall o .run)) (replicate lent 0)
 
 -- What the recordings of the instances are computed by, named once: `unfolding computed` unfolds all of it.
 computed : Opening → List SiteCall → ℕ → RecordOutput
@@ -84,6 +97,29 @@ answeredA = refl
 pub case-a : Cut (openingOf openingA) (acceptedCalls callsA (openCall openingA .run))
     (shownIn (take (recordedBy openingA callsA 16 .answer .written) (recordedBy openingA callsA 16 .bytes)))
 case-a = recorded-cut openingA callsA 16 typedA openedA answeredA
+
+-- Its page, and that this is what the bytes of its recording show.
+pageA : pagedBy openingA callsA 86
+    ≡ record {
+      answer = record { refusal = 0; written = 85 };
+      bytes =
+          codes "Z1 F    2      4\n"
+          ++ (codes "Z2 F    1     24\n" ++ (codes "Z3 -    0     30\n" ++ (codes "L13     1      2\n" ++ (codes "T             60\n" ++ (0 ∷ [])))));
+    }
+unfolding computed columnText digitCode zoneText channelText channelsText totalText pageWith pageCall
+pageA = refl
+
+pub case-page : let v = recordedBy openingA callsA 16 in
+    let w = pagedBy openingA callsA 86 in
+    let shown = take (v .answer .written) (v .bytes) in
+    take (w .answer .written) (w .bytes) ≡ pageWith (zonesIn (wordAt shown 0)) (shownIn shown) (v .answer .total)
+case-page =
+    let r = after callsA (openCall openingA .run) in
+    let v = recordedBy openingA callsA 16 in
+    let w = pagedBy openingA callsA 86 in
+    page-demand (openingA .terms) (openingA .stocks) (openCall openingA) (opens (openingA .terms) (openingA .stocks)) openedA callsA _ r
+    (makes callsA (openCall openingA .run) typedA) (replicate 86 0) (w .bytes) (w .answer) (pages r (replicate 86 0)) (replicate 16 0) (v .bytes) (v .answer)
+    (records r (replicate 16 0)) .shows (ap (λ (x : Output). x .answer .refusal) pageA) answeredA
 
 -- The same stocks in edition 2. Zone 3 sends zone 1 a line check that stays on its line. Zone 1, which depends on zone 2, starts, and sends zone 3 a line check with the flag; zone 3 takes it, and
 -- hands cars to zone 2, which takes them before the request of zone 1. So zone 3 is recorded too, with the event before the request.

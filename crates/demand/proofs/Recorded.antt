@@ -14,7 +14,7 @@ use Rattle.rules.specs.Below.{sum}
 use Rattle.rules.specs.Cut.{Cut, Snapshot, run, moves, present, snapshot}
 use Rattle.rules.specs.Opening as rules
 use Rattle.rules.specs.Park.{inside, total, entries, exits}
-use Rattle.rules.specs.Questions.{Among}
+use Rattle.rules.specs.Questions.{Question, ask, refusal, Among}
 use Rattle.rules.specs.Site.{Site, Call, openS}
 use Rattle.rules.specs.Zone.{isPermanent, opened}
 use Rattle.run.specs.Calls.{recordOf, answer}
@@ -38,9 +38,10 @@ use Rattle.journal.proofs.TrueRuns.{true-tells, true-replayed}
 use Rattle.journal.proofs.Words.{decode-record}
 use Rattle.words.specs.Bytes.{wordAt}
 use Rattle.words.specs.Header.{editionIn}
-use Rattle.recording.specs.Call.{ruleCallsIn, noRequests, snapshotOf, recordedTotal, RecordOutput, withTotal, notRecorded, recordCall}
+use Rattle.recording.specs.Call.{ruleCallsIn, noRequests, snapshotOf, recordedTotal, recordingQuestions, RecordOutput, withTotal, notRecorded, recordCall}
 use Rattle.recording.specs.Layout.{recordingBytes}
 use Rattle.recording.specs.Shown.{shownIn}
+use Rattle.recording.proofs.Asked.{accepted}
 use Rattle.recording.proofs.Complete.{complete-if, if-complete}
 use Rattle.recording.proofs.Shows.{recording-shows, recording-edition, recording-balances, recording-cuts}
 use Rattle.recording.proofs.Sized.{recording-most}
@@ -67,23 +68,22 @@ Started r = hasStarted (r .head) ≡ true
 abbrev Free : Run → Type 0
 Free r = noRequests (countOf (r .head)) (r .channels) ≡ true
 
-abbrev bytesOf : Run → List ℕ
+abbrev pub bytesOf : Run → List ℕ
 bytesOf r = recordingBytes (termsOf (r .head)) (snapshotOf r)
 
--- What each number means that the recording call answers, once question 1 is answered yes.
-record ByNumber (r : Run) (lent : List ℕ) (o : RecordOutput) : Type 0 where
-  accepted : o .answer .refusal ≡ 0 → Started r × Free r × (take (o .answer .written) (o .bytes) ≡ bytesOf r) × (o .answer .total ≡ recordedTotal r)
-  accepts : Started r → Free r → length (bytesOf r) ≤ length lent → o .answer .refusal ≡ 0
-  refusals : Among (o .answer .refusal) (0 ∷ 12 ∷ 13 ∷ 14 ∷ [])
-  twelve : o .answer .refusal ≡ 12 → hasStarted (r .head) ≡ false
-  thirteen : o .answer .refusal ≡ 13 → noRequests (countOf (r .head)) (r .channels) ≡ false
-  fourteen : o .answer .refusal ≡ 14 → Started r × Free r × (length lent < length (bytesOf r))
+-- What each number means that a call with the recording's questions about these bytes answers, once question 1 is answered yes.
+pub record ByNumber (r : Run) (bytes lent : List ℕ) (n : ℕ) : Type 0 where
+  pub accepted : n ≡ 0 → Started r × Free r
+  pub accepts : Started r → Free r → length bytes ≤ length lent → n ≡ 0
+  pub refusals : Among n (0 ∷ 12 ∷ 13 ∷ 14 ∷ [])
+  pub twelve : n ≡ 12 → hasStarted (r .head) ≡ false
+  pub thirteen : n ≡ 13 → noRequests (countOf (r .head)) (r .channels) ≡ false
+  pub fourteen : n ≡ 14 → Started r × Free r × (length lent < length bytes)
 
--- The call's output by the answers to questions 12, 13 and 14.
-answered-by : (r : Run) (lent : List ℕ) (x y z : Bool) → hasStarted (r .head) ≡ x → noRequests (countOf (r .head)) (r .channels) ≡ y
-    → leb (length (bytesOf r)) (length lent) ≡ z
-    → ByNumber r lent (cond x (cond y (cond z (withTotal (recordedTotal r) (writtenOutput lent (bytesOf r))) (notRecorded lent 14)) (notRecorded lent 13)) (notRecorded lent 12))
-answered-by r lent false y z e f g = record {
+-- The number by the answers to questions 12, 13 and 14.
+answered-by : (r : Run) (bytes lent : List ℕ) (x y z : Bool) → hasStarted (r .head) ≡ x → noRequests (countOf (r .head)) (r .channels) ≡ y
+    → leb (length bytes) (length lent) ≡ z → ByNumber r bytes lent (cond x (cond y (cond z 0 14) 13) 12)
+answered-by r bytes lent false y z e f g = record {
   accepted = λ (q : _≡_ {A = ℕ} 12 0). absurd (omega arith);
   accepts = λ a b c. absurd (false≢true (sym e ∙ a));
   refusals = inr (inl refl);
@@ -91,7 +91,7 @@ answered-by r lent false y z e f g = record {
   thirteen = λ (q : _≡_ {A = ℕ} 12 13). absurd (omega arith);
   fourteen = λ (q : _≡_ {A = ℕ} 12 14). absurd (omega arith);
 }
-answered-by r lent true false z e f g = record {
+answered-by r bytes lent true false z e f g = record {
   accepted = λ (q : _≡_ {A = ℕ} 13 0). absurd (omega arith);
   accepts = λ a b c. absurd (false≢true (sym f ∙ b));
   refusals = inr (inr (inl refl));
@@ -99,16 +99,16 @@ answered-by r lent true false z e f g = record {
   thirteen = λ q. f;
   fourteen = λ (q : _≡_ {A = ℕ} 13 14). absurd (omega arith);
 }
-answered-by r lent true true false e f g = record {
+answered-by r bytes lent true true false e f g = record {
   accepted = λ (q : _≡_ {A = ℕ} 14 0). absurd (omega arith);
   accepts = λ a b c. absurd (false≢true (sym g ∙ le-leb _ _ c));
   refusals = inr (inr (inr (inl refl)));
   twelve = λ (q : _≡_ {A = ℕ} 14 12). absurd (omega arith);
   thirteen = λ (q : _≡_ {A = ℕ} 14 13). absurd (omega arith);
-  fourteen = λ q. (e, f, leb-false (length (bytesOf r)) (length lent) g);
+  fourteen = λ q. (e, f, leb-false (length bytes) (length lent) g);
 }
-answered-by r lent true true true e f g = record {
-  accepted = λ q. (e, f, take-append-seam (bytesOf r) (drop (length (bytesOf r)) lent), refl);
+answered-by r bytes lent true true true e f g = record {
+  accepted = λ q. (e, f);
   accepts = λ a b c. refl;
   refusals = inl refl;
   twelve = λ (q : _≡_ {A = ℕ} 0 12). absurd (omega arith);
@@ -116,13 +116,23 @@ answered-by r lent true true true e f g = record {
   fourteen = λ (q : _≡_ {A = ℕ} 0 14). absurd (omega arith);
 }
 
-record-numbers : (r : Run) (lent : List ℕ) → isReplayed r ≡ true → ByNumber r lent (recordCall r lent)
-unfolding recordCall
-record-numbers r lent e =
-    rw e (answered-by r lent (hasStarted (r .head)) (noRequests (countOf (r .head)) (r .channels)) (leb (length (bytesOf r)) (length lent)) refl refl refl)
+-- The number that such a call answers is the first of its questions.
+pub by-questions : {A : Type 0} (r : Run) (bytes lent : List ℕ) (refused : ℕ → A) (x : A) (number : A → ℕ) → ((n : ℕ) → number (refused n) ≡ n)
+    → number x ≡ 0 → isReplayed r ≡ true → ByNumber r bytes lent (number (ask (recordingQuestions r bytes lent) refused x))
+by-questions r bytes lent refused x number f z e =
+    subst (ByNumber r bytes lent) (sym (asked (recordingQuestions r bytes lent)))
+    (rw e (answered-by r bytes lent (hasStarted (r .head)) (noRequests (countOf (r .head)) (r .channels)) (leb (length bytes) (length lent)) refl refl refl))
+  where
+    asked : (qs : List Question) → number (ask qs refused x) ≡ refusal qs
+    asked [] = z
+    asked (q ∷ qs) = go (q .yes) (asked qs)
+      where
+        go : (b : Bool) → number (ask qs refused x) ≡ refusal qs → number (cond b (ask qs refused x) (refused (q .number))) ≡ cond b (refusal qs) (q .number)
+        go true h = h
+        go false h = f (q .number)
 
 -- No zone is permanent where none of the site is.
-none-permanent : (r : Run) → hasStarted (r .head) ≡ false → (z : ℕ) → isPermanent (siteOf r .zone z .checkpoint) ≡ false
+pub none-permanent : (r : Run) → hasStarted (r .head) ≡ false → (z : ℕ) → isPermanent (siteOf r .zone z .checkpoint) ≡ false
 unfolding hasStarted
 none-permanent r e z = go (ltb z (countOf (r .head))) refl
   where
@@ -132,27 +142,37 @@ none-permanent r e z = go (ltb z (countOf (r .head))) refl
 
 -- Demand 3 of a run whose journal replays to it, in the run's own terms.
 module _ (r : Run) (w : WholeRun r) (e : isReplayed r ≡ true) (lent : List ℕ) where
-  by-number : ByNumber r lent (recordCall r lent)
-  by-number = record-numbers r lent e
+  by-number : ByNumber r (bytesOf r) lent (recordCall r lent .answer .refusal)
+  unfolding recordCall
+  by-number =
+      by-questions r (bytesOf r) lent (notRecorded lent) (withTotal (recordedTotal r) (writtenOutput lent (bytesOf r))) (λ (o : RecordOutput). o .answer .refusal)
+      (λ n. refl) refl e
 
-  replayed-shown : recordCall r lent .answer .refusal ≡ 0 → shownIn (take (recordCall r lent .answer .written) (recordCall r lent .bytes)) ≡ snapshotOf r
-  replayed-shown z = ap shownIn (by-number .accepted z .2 ∙ sym (append-nil (bytesOf r))) ∙ recording-shows r w e []
+  -- The bytes written, and the total answered.
+  pub written : recordCall r lent .answer .refusal ≡ 0 → take (recordCall r lent .answer .written) (recordCall r lent .bytes) ≡ bytesOf r
+  written z = rw (accepted r lent z .output) (take-append-seam (bytesOf r) (drop (length (bytesOf r)) lent))
+
+  pub answered : recordCall r lent .answer .refusal ≡ 0 → recordCall r lent .answer .total ≡ recordedTotal r
+  answered z = ap (λ (o : RecordOutput). o .answer .total) (accepted r lent z .output)
+
+  pub replayed-shown : recordCall r lent .answer .refusal ≡ 0 → shownIn (take (recordCall r lent .answer .written) (recordCall r lent .bytes)) ≡ snapshotOf r
+  replayed-shown z = ap shownIn (written z ∙ sym (append-nil (bytesOf r))) ∙ recording-shows r w e []
 
   replayed-demand : Demand (openedWith r) (ruleCallsIn (recordWords r)) r lent (recordCall r lent .answer) (recordCall r lent .bytes)
   replayed-demand = record {
     only-complete = λ z. let a = by-number .accepted z in complete-if r w e (a .0) (a .1);
     if-complete = λ c n. let h = if-complete r w e c in by-number .accepts (h .0) (h .1) n;
     cut = λ z. let a = by-number .accepted z in
-        subst (λ (bytes : List ℕ). Cut (openingOf (openedWith r)) (ruleCallsIn (recordWords r)) (shownIn bytes)) (append-nil (bytesOf r) ∙ sym (a .2))
+        subst (λ (bytes : List ℕ). Cut (openingOf (openedWith r)) (ruleCallsIn (recordWords r)) (shownIn bytes)) (append-nil (bytesOf r) ∙ sym (written z))
         (recording-cuts r w e (a .0) (a .1) []);
-    shows-total = λ z. by-number .accepted z .3 ∙ ap (λ (x : Snapshot). total (countOf (r .head)) (x .park)) (sym (replayed-shown z));
+    shows-total = λ z. answered z ∙ ap (λ (x : Snapshot). total (countOf (r .head)) (x .park)) (sym (replayed-shown z));
     balances = λ z. let a = by-number .accepted z in
         subst (λ (x : Snapshot). let inner = inside (x .events) (moves (ruleCallsIn (recordWords r)) (openS (openingOf (openedWith r)))) in
         recordCall r lent .answer .total + exits inner ≡ sum (openingStocks r) + entries inner) (sym (replayed-shown z))
-        (ap (λ (n : ℕ). n + exits (inside (snapshotOf r .events) (moves (ruleCallsIn (recordWords r)) (openS (openingOf (openedWith r)))))) (a .3)
+        (ap (λ (n : ℕ). n + exits (inside (snapshotOf r .events) (moves (ruleCallsIn (recordWords r)) (openS (openingOf (openedWith r)))))) (answered z)
         ∙ recording-balances r w e (a .0) (a .1));
     no-total = no-total r lent;
-    shows-edition = λ z. ap (λ (bytes : List ℕ). editionIn (wordAt bytes 0)) (by-number .accepted z .2 ∙ sym (append-nil (bytesOf r)))
+    shows-edition = λ z. ap (λ (bytes : List ℕ). editionIn (wordAt bytes 0)) (written z ∙ sym (append-nil (bytesOf r)))
         ∙ recording-edition r w e [];
     ends = ap present (sym (site-is r w e));
     refusals = by-number .refusals;
@@ -170,13 +190,13 @@ module _ (o : Opening) (opened : openCall o .refusal ≡ 0) (cs : List SiteCall)
   abbrev calls : List Call
   calls = acceptedCalls cs (openCall o .run)
 
-  whole : WholeRun last
+  pub whole : WholeRun (after cs (openCall o .run))
   whole = after-whole cs (openCall o .run) (open-whole o)
 
-  opening-is : openedWith last ≡ filled o
+  pub opening-is : openedWith (after cs (openCall o .run)) ≡ filled o
   opening-is = true-tells o cs opened .opening
 
-  calls-are : ruleCallsIn (recordWords last) ≡ calls
+  pub calls-are : ruleCallsIn (recordWords (after cs (openCall o .run))) ≡ acceptedCalls cs (openCall o .run)
   calls-are = ap ruleCallsIn (true-tells o cs opened .records) ∙ calls-decoded cs (openCall o .run) typed
 
   pub true-demand : (lent : List ℕ)

@@ -1,4 +1,4 @@
--- Demand 3, whole, over the facts that the functions promise: the pages Site and Recording of crates/promises say that they keep them.
+-- Demand 3, whole, over the facts that the functions promise: the modules Site and Recording of crates/promises say that they keep them.
 use mathlib.Core.Path.{_≡_, sym, _∙_, ap, subst}
 use mathlib.Core.List.{List}
 use Prim.Native.Nat.{ℕ}

@@ -25,23 +25,28 @@ use Rattle.journal.specs.Writing.{
 use Rattle.recording.specs.Layout.{itemWords, recordingBytes}
 use Rattle.recording.specs.Call.{noRequests, recordCall}
 use Rattle.recording.specs.Journal.{recordJournal}
-use Rattle.text.specs.Text.{digitCode, decimalText}
+use Rattle.text.specs.Text.{digitCode, columnText}
+use Rattle.page.specs.Call.{pageCall}
+use Rattle.page.specs.Journal.{pageJournal}
+use Rattle.page.specs.Layout.{zoneText, channelText, channelsText, totalText, pageWith}
 use Rattle.zone.specs.Zone.{isOther, isZoneSound, openZone, sendStep, receiveStep, requestStep, startStep, gateStep}
 use Rattle.report.specs.Report.{reportText}
+use Rattle.report.specs.Wall.{wallText}
 use Rattle.edges.specs.Rows.{Row, Reply, reply, answers, expectations}
 use Rattle.edges.specs.Editions.{editions}
 use Rattle.edges.specs.Gates.{gates}
 use Rattle.edges.specs.Searches.{searches}
 use Rattle.edges.specs.Remaining.{remaining}
 use Rattle.edges.specs.Empty.{empties}
+use Rattle.edges.specs.Pages.{pageRows}
 use Rattle.edges.specs.Edges.{firstEdges, table}
 
 -- What the rows are computed by, named once: `unfolding computed` unfolds all of it.
 computed : List Row → List Reply
-unfolding isEdition isTraffic hasGates isCount isOn has members requestedBy startedBy itemOf messageWord pushed movedDown popped allFree highestFull requestedAll isPair openCall answer isChannel localSound localsSound channelSound channelsSound stocks carsOnChannels partsSound hasStarted openedRun journalBytes decode readCall sameLocal sameChannel sameZones sameChannels sameState replaysTo isReplayed writeCall itemWords recordingBytes noRequests recordCall recordJournal digitCode decimalText isOther isZoneSound openZone sendStep receiveStep requestStep startStep gateStep reportText
+unfolding isEdition isTraffic hasGates isCount isOn has members requestedBy startedBy itemOf messageWord pushed movedDown popped allFree highestFull requestedAll isPair openCall answer isChannel localSound localsSound channelSound channelsSound stocks carsOnChannels partsSound hasStarted openedRun journalBytes decode readCall sameLocal sameChannel sameZones sameChannels sameState replaysTo isReplayed writeCall itemWords recordingBytes noRequests recordCall recordJournal digitCode columnText zoneText channelText channelsText totalText pageWith pageCall pageJournal isOther isZoneSound openZone sendStep receiveStep requestStep startStep gateStep reportText wallText
 computed rows = answers rows
 
--- The table in six parts: as a whole it is beyond the 50,000,000 steps that one proof may take.
+-- The table in seven parts: as a whole it is beyond the 50,000,000 steps that one proof may take.
 first-edges : answers firstEdges ≡ expectations firstEdges
 unfolding computed
 first-edges = refl
@@ -66,6 +71,10 @@ empty-edges : answers empties ≡ expectations empties
 unfolding computed
 empty-edges = refl
 
+page-edges : answers pageRows ≡ expectations pageRows
+unfolding computed
+page-edges = refl
+
 -- Where two lists of rows answer as expected, so do both together.
 answers-all : (xs ys : List Row) → answers (xs ++ ys) ≡ answers xs ++ answers ys
 answers-all [] ys = refl
@@ -80,7 +89,8 @@ joined xs ys e f = rw (answers-all xs ys, expectations-all xs ys, e, f) refl
 
 pub edges : answers table ≡ expectations table
 edges =
-    joined firstEdges (editions ++ gates ++ searches ++ remaining ++ empties) first-edges
-    (joined editions (gates ++ searches ++ remaining ++ empties) edition-edges
-    (joined gates (searches ++ remaining ++ empties) gate-edges
-    (joined searches (remaining ++ empties) search-edges (joined remaining empties remaining-edges empty-edges))))
+    joined firstEdges (editions ++ gates ++ searches ++ remaining ++ empties ++ pageRows) first-edges
+    (joined editions (gates ++ searches ++ remaining ++ empties ++ pageRows) edition-edges
+    (joined gates (searches ++ remaining ++ empties ++ pageRows) gate-edges
+    (joined searches (remaining ++ empties ++ pageRows) search-edges
+    (joined remaining (empties ++ pageRows) remaining-edges (joined empties pageRows empty-edges page-edges)))))

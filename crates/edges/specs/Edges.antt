@@ -19,6 +19,7 @@ use Rattle.edges.specs.Gates.{gates}
 use Rattle.edges.specs.Searches.{searches}
 use Rattle.edges.specs.Remaining.{remaining}
 use Rattle.edges.specs.Empty.{empties}
+use Rattle.edges.specs.Pages.{pageRows}
 use Rattle.edges.specs.Rows.{
   Row,
   partRow,
@@ -507,4 +508,4 @@ firstEdges =
     ++ journals ++ states
 
 abbrev pub table : List Row
-table = firstEdges ++ editions ++ gates ++ searches ++ remaining ++ empties
+table = firstEdges ++ editions ++ gates ++ searches ++ remaining ++ empties ++ pageRows

@@ -4,4 +4,5 @@ pub mod Gates
 pub mod Searches
 pub mod Remaining
 pub mod Empty
+pub mod Pages
 pub mod Edges

@@ -25,13 +25,17 @@ use Rattle.journal.specs.Writing.{Output, writeCall}
 use Rattle.journal.specs.declared.Reading.{Reading}
 use Rattle.recording.specs.Call.{RecordOutput, recordCall}
 use Rattle.recording.specs.Journal.{JournalOutput, recordJournal}
-use Rattle.text.specs.Codes.{codes}
+use Rattle.text.specs.Codes.{codes, codesOf}
 use Rattle.zone.proofs.Examples as zones
+use Rattle.page.specs.Call.{pageCall}
+use Rattle.page.specs.Journal.{PageOutput, pageJournal}
+use Rattle.page.specs.Layout.{mostPageBytes}
 use Rattle.report.specs.Report.{reportText}
+use Rattle.report.specs.Wall.{wallText}
 
--- What a row looks at: an answer of the zone part; an opening; a call on a run, its recording or its journal, each after some calls on it; the
--- reading of a journal; its recording; the program's text of a journal; the search for a full channel from a zone to those of a set, after
--- some calls on a run. A row holds this and not its answer, so that the check computes each run only once.
+-- What a row looks at: an answer of the zone part; an opening; a call on a run, its recording, its page or its journal, each after some calls on
+-- it; the reading of a journal; its recording or its page; the programs' texts of a journal; the search for a full channel from a zone to those
+-- of a set, after some calls on a run. A row holds this and not its answer, so that the check computes each run only once.
 pub data RowCall : Type 0 where
   Part : zones.Reply → RowCall
   Open : Opening → RowCall
@@ -41,6 +45,9 @@ pub data RowCall : Type 0 where
   Read : (journal : List ℕ) → RowCall
   RecordJournal : (journal lent : List ℕ) → RowCall
   Print : (journal : List ℕ) → RowCall
+  Page : Run → List SiteCall → (lent : List ℕ) → RowCall
+  PageJournal : (journal lent : List ℕ) → RowCall
+  PrintPage : (journal : List ℕ) → RowCall
   Search : Run → List SiteCall → (zone set : ℕ) → RowCall
 
 pub data Reply : Type 0 where
@@ -51,6 +58,7 @@ pub data Reply : Type 0 where
   reading : Reading → Reply
   journalRecorded : JournalOutput → Reply
   text : List ℕ → Reply
+  journalPage : PageOutput → Reply
   found : ℕ → Reply
 
 -- The answer, by the definitions that the contracts cite.
@@ -63,6 +71,9 @@ reply (Write r cs lent) = output (writeCall (after cs r) lent)
 reply (Read journal) = reading (readCall journal)
 reply (RecordJournal journal lent) = journalRecorded (recordJournal journal lent)
 reply (Print journal) = text (reportText journal)
+reply (Page r cs lent) = output (pageCall (after cs r) lent)
+reply (PageJournal journal lent) = journalPage (pageJournal journal lent)
+reply (PrintPage journal) = text (wallText journal (replicate mostPageBytes 0))
 reply (Search r cs zone set) = found (highestFull (after cs r .channels) (index zone) set)
 
 pub record Row : Type 0 where
@@ -136,6 +147,24 @@ recordsJournal journal lent n position number total bytes = record {
 -- What the program prints of a journal.
 abbrev pub prints : List ℕ → String → Row
 prints journal line = record { call = Print journal; expected = text (codes line) }
+
+-- The page of a run after some calls: the refusal's number, the number of bytes written, and all the lent bytes after it.
+abbrev pub pages : Run → List SiteCall → List ℕ → ℕ → ℕ → List ℕ → Row
+pages r cs lent n number bytes = record {
+  call = Page r cs lent;
+  expected = output (record { answer = record { refusal = n; written = number }; bytes = bytes });
+}
+
+-- A journal's page: the same with the record's position.
+abbrev pub pagesJournal : List ℕ → List ℕ → ℕ → ℕ → ℕ → List ℕ → Row
+pagesJournal journal lent n position number bytes = record {
+  call = PageJournal journal lent;
+  expected = journalPage (record { answer = record { refusal = n; position = position; written = number }; bytes = bytes });
+}
+
+-- What the page's program, which lends 1,105 bytes, prints of a journal.
+abbrev pub printsPage : List ℕ → List String → Row
+printsPage journal printed = record { call = PrintPage journal; expected = text (codesOf printed) }
 
 -- A search after some calls on a run: the zone that would send, the set, and the number of the zone that is named, 0 for none.
 abbrev pub names : Run → List SiteCall → ℕ → ℕ → ℕ → Row

@@ -1,12 +1,15 @@
--- What the recording call, and the text of a recording, promise.
+-- What the recording call and the page call promise, and the texts of a recording and of a page.
 use mathlib.Core.Path.{_≡_}
 use denote.Ref.{now}
 use Rattle.recording.specs.Journal.{recordJournal}
+use Rattle.page.specs.Journal.{pageJournal}
 use Rattle.report.specs.Report.{reportText}
+use Rattle.report.specs.Wall.{wallText}
 use Rattle.text.specs.Text.{Prints}
 use Rattle.recorder.proofs as recorder
+use Rattle.pager.proofs as pager
 use Rattle.report.proofs as report-part
-use Rattle.promises.specs.Answers.{RecordAnswers}
+use Rattle.promises.specs.Answers.{RecordAnswers, PageAnswers}
 use Rattle.promises.specs.Promise.{Keeps}
 
 pub «record» : Keeps recorder.«record».ended recorder.«record».Symbol.routine
@@ -19,3 +22,14 @@ record-journal _ = recorder.record_journal.Met.met
 
 pub report : Keeps report-part.report.ended report-part.report.Symbol.routine (λ _ journal out r. Prints (reportText (now journal)) (now (out .entry)) (now (out .exit)) r)
 report _ = report-part.report.Met.met
+
+pub page : Keeps pager.page.ended pager.page.Symbol.routine (λ _ run out r. PageAnswers run (now (out .entry)) r (now (out .exit)))
+page _ = pager.page.Met.met
+
+pub page-journal : Keeps pager.page_journal.ended pager.page_journal.Symbol.routine
+    (λ _ journal out r. (r ≡ pageJournal (now journal) (now (out .entry)) .answer) × (now (out .exit) ≡ pageJournal (now journal) (now (out .entry)) .bytes))
+page-journal _ = pager.page_journal.Met.met
+
+pub page-text : Keeps report-part.page_text.ended report-part.page_text.Symbol.routine
+    (λ _ journal out r. Prints (wallText (now journal) (now (out .entry))) (now (out .entry)) (now (out .exit)) r)
+page-text _ = report-part.page_text.Met.met

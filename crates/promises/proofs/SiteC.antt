@@ -4,7 +4,8 @@ use denote.Ref.{now}
 use Rattle.run.specs.declared.SiteCall.the-variants.{Send, Receive, Start, Gate}
 use Rattle.rules.specs.declared.Direction.the-variants.{In, Out}
 use Rattle.recording.specs.Journal.{recordJournal}
-use Rattle.site_c.specs.Plain.{answerIn, plainIn, openPlain, callPlain, recordPlain, writePlain, readPlain, recordedPlain}
+use Rattle.page.specs.Journal.{pageJournal}
+use Rattle.site_c.specs.Plain.{answerIn, plainIn, openPlain, callPlain, recordPlain, pagePlain, writePlain, readPlain, recordedPlain, pagedPlain}
 use Rattle.site_c.proofs as part
 use Rattle.promises.specs.Promise.{Keeps}
 
@@ -41,6 +42,11 @@ pub cut-site-record : Keeps part.cut_site_record.ended part.cut_site_record.Symb
     (r ≡ recordPlain (plainIn head (now items) (now lens) (now journal)) (now (out .entry)) .answer) × (now (out .exit) ≡ recordPlain (plainIn head (now items) (now lens) (now journal)) (now (out .entry)) .bytes))
 cut-site-record _ = part.cut_site_record.Met.met
 
+pub cut-site-page : Keeps part.cut_site_page.ended part.cut_site_page.Symbol.routine
+    (λ _ head items lens journal out r.
+    (r ≡ pagePlain (plainIn head (now items) (now lens) (now journal)) (now (out .entry)) .answer) × (now (out .exit) ≡ pagePlain (plainIn head (now items) (now lens) (now journal)) (now (out .entry)) .bytes))
+cut-site-page _ = part.cut_site_page.Met.met
+
 pub cut-journal-write : Keeps part.cut_journal_write.ended part.cut_journal_write.Symbol.routine
     (λ _ head items lens journal out r.
     (r ≡ writePlain (plainIn head (now items) (now lens) (now journal)) (now (out .entry)) .answer) × (now (out .exit) ≡ writePlain (plainIn head (now items) (now lens) (now journal)) (now (out .entry)) .bytes))
@@ -52,3 +58,7 @@ cut-journal-read _ = part.cut_journal_read.Met.met
 pub cut-journal-record : Keeps part.cut_journal_record.ended part.cut_journal_record.Symbol.routine
     (λ _ bytes out r. (r ≡ recordedPlain (recordJournal (now bytes) (now (out .entry)) .answer)) × (now (out .exit) ≡ recordJournal (now bytes) (now (out .entry)) .bytes))
 cut-journal-record _ = part.cut_journal_record.Met.met
+
+pub cut-journal-page : Keeps part.cut_journal_page.ended part.cut_journal_page.Symbol.routine
+    (λ _ bytes out r. (r ≡ pagedPlain (pageJournal (now bytes) (now (out .entry)) .answer)) × (now (out .exit) ≡ pageJournal (now bytes) (now (out .entry)) .bytes))
+cut-journal-page _ = part.cut_journal_page.Met.met

@@ -1,5 +1,5 @@
--- What the site engine and the recording call answer, each a fact of values alone. The pages Site and Recording say that the functions keep
--- these facts; demand 3 rests on them and on nothing else of the functions.
+-- What the site engine, the recording call and the page call answer, each a fact of values alone. The modules Site and Recording say that the
+-- functions keep these facts; demand 3 rests on them and on nothing else of the functions.
 use mathlib.Core.Path.{_≡_}
 use mathlib.Core.List.{List}
 use Prim.Native.Nat.{ℕ}
@@ -11,6 +11,8 @@ use Rattle.run.specs.declared.SiteCall.{SiteCall}
 use Rattle.run.specs.declared.Terms.{Terms}
 use Rattle.recording.specs.Call.{recordCall}
 use Rattle.recording.specs.declared.Recorded.{Recorded}
+use Rattle.journal.specs.declared.Written.{Written}
+use Rattle.page.specs.Call.{pageCall}
 
 -- The opening with these terms and stocks answers a.
 abbrev pub OpenAnswers : Terms → List ℕ → Answer → Type 0
@@ -23,3 +25,7 @@ Answers c run a = a ≡ answer c run
 -- The recording call on this run, lent these bytes, answers w and leaves `bytes` in their stead.
 abbrev pub RecordAnswers : Run → (lent : List ℕ) → Recorded → (bytes : List ℕ) → Type 0
 RecordAnswers run lent w bytes = (w ≡ recordCall run lent .answer) × (bytes ≡ recordCall run lent .bytes)
+
+-- The page call on this run, lent these bytes, answers w and leaves `bytes` in their stead.
+abbrev pub PageAnswers : Run → (lent : List ℕ) → Written → (bytes : List ℕ) → Type 0
+PageAnswers run lent w bytes = (w ≡ pageCall run lent .answer) × (bytes ≡ pageCall run lent .bytes)
