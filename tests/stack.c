@@ -126,6 +126,11 @@ static OWN void call_record(void)
     told(cut_record(&run, out, sizeof out).refusal);
 }
 
+static OWN void call_page(void)
+{
+    told(cut_page(&run, out, sizeof out).refusal);
+}
+
 static OWN void call_write(void)
 {
     told(cut_write(&run, out, sizeof out).refusal);
@@ -141,6 +146,11 @@ static OWN void call_journal_read(void)
 static OWN void call_journal_record(void)
 {
     told(cut_journal_record(bytes, size, out, sizeof out).refusal);
+}
+
+static OWN void call_journal_page(void)
+{
+    told(cut_journal_page(bytes, size, out, sizeof out).refusal);
 }
 
 static const struct {
@@ -164,9 +174,11 @@ static const struct {
     {"cut_enter", call_enter, CUT_CALL_STACK},
     {"cut_leave", call_leave, CUT_CALL_STACK},
     {"cut_record", call_record, CUT_RECORD_STACK},
+    {"cut_page", call_page, CUT_PAGE_STACK},
     {"cut_write", call_write, CUT_WRITE_STACK},
     {"cut_journal_read", call_journal_read, CUT_JOURNAL_READ_STACK},
     {"cut_journal_record", call_journal_record, CUT_JOURNAL_RECORD_STACK},
+    {"cut_journal_page", call_journal_page, CUT_JOURNAL_PAGE_STACK},
 };
 
 static void (*volatile called)(void);

@@ -14,9 +14,11 @@ pub enum Entry {
     SiteEnter,
     SiteLeave,
     SiteRecord,
+    SitePage,
     JournalWrite,
     JournalRead,
     JournalRecord,
+    JournalPage,
     ZoneOpen,
     ZoneSend,
     ZoneReceive,
@@ -42,22 +44,24 @@ const fn gate(name: &'static str, known: &'static [u8]) -> Numbers {
     (name, [&[1, 15], &[1, 15], known, &[1]])
 }
 
+/// The numbers of a recording or a page, of a run and of a journal.
+const WRITTEN: &[u8] = &[0, 1, 12, 13, 14];
+const READ_WRITTEN: &[u8] = &[0, 16, 17, 4, 18, 19, 12, 13, 14];
+
 /// Each call, in the order of `Entry`.
-pub const ENTRIES: [Numbers; 19] = [
+pub const ENTRIES: [Numbers; 21] = [
     call("cut_site_open", &[0, 2, 3, 4], &[15]),
     call("cut_site_send", &[0, 1, 5, 6, 7, 8], &[1]),
     call("cut_site_receive", &[0, 1, 5, 6, 9, 10], &[1]),
     call("cut_site_start", &[0, 1, 5, 6, 11, 10], &[1]),
     gate("cut_site_enter", &[0, 1, 5, 6, 21]),
     gate("cut_site_leave", &[0, 1, 5, 6, 7]),
-    call("cut_site_record", &[0, 1, 12, 13, 14], &[1]),
+    call("cut_site_record", WRITTEN, &[1]),
+    call("cut_site_page", WRITTEN, &[1]),
     call("cut_journal_write", &[0, 1, 14], &[1]),
     call("cut_journal_read", &[0, 16, 17, 4, 18, 19], &[15]),
-    call(
-        "cut_journal_record",
-        &[0, 16, 17, 4, 18, 19, 12, 13, 14],
-        &[15],
-    ),
+    call("cut_journal_record", READ_WRITTEN, &[15]),
+    call("cut_journal_page", READ_WRITTEN, &[15]),
     call("cut_zone_open", &[0, 2, 5], &[15]),
     call("cut_zone_send", &[0, 1, 5, 6, 7], &[1]),
     call("cut_zone_receive", &[0, 1, 5, 6, 20], &[1]),
@@ -297,6 +301,36 @@ impl Empty {
     }
 }
 
+/// What was met of pages, each of a run that was compared.
+#[derive(Clone, Debug, Default, PartialEq, Eq)]
+pub struct Pages {
+    /// Those with 8 zones.
+    pub eight_zones: u64,
+    /// Those with a line that has items and no cars.
+    pub empty_lines: u64,
+    /// Those with more than 65,535 cars on a line.
+    pub high_lines: u64,
+    /// Those with a total above 65,535.
+    pub high_totals: u64,
+    /// Those with a total of six digits, which fills its column.
+    pub widest_totals: u64,
+}
+
+impl Pages {
+    /// What must have been met, by name, with the times and how often it is needed.
+    fn others(&self) -> Vec<(String, u64, u64)> {
+        [
+            ("pages with 8 zones", self.eight_zones),
+            ("pages with a line of 0 cars", self.empty_lines),
+            ("pages with a line above 65,535", self.high_lines),
+            ("pages with a total above 65,535", self.high_totals),
+            ("pages with a total of six digits", self.widest_totals),
+        ]
+        .map(|(name, times)| (name.to_string(), times, LEAST_PAGES))
+        .to_vec()
+    }
+}
+
 /// How often each number of each call must be met under each heading.
 pub const LEAST_ANSWERS: u64 = 100;
 /// How often each kind of hand-over of 0 cars must be taken in each edition.
@@ -308,6 +342,8 @@ pub const LEAST_GATES: u64 = 100;
 pub const LEAST_REMAINING: u64 = 100;
 /// How often each of what is counted of openings without stocks must be met.
 pub const LEAST_EMPTY: u64 = 100;
+/// How often each of what is counted of pages must be met.
+pub const LEAST_PAGES: u64 = 100;
 /// How many complete recordings of each edition must have a provisional mark turned firm.
 pub const LEAST_TURNED: u64 = 1_000;
 /// How many complete recordings of each edition must have a line above 16.
@@ -359,6 +395,7 @@ pub struct Counts {
     pub gates: Gates,
     pub remaining: Remaining,
     pub empty: Empty,
+    pub pages: Pages,
     /// By edition: complete recordings, each of a list of its own, with a provisional mark turned firm.
     pub turned: [u64; EDITIONS.len()],
     /// By edition: complete recordings, each of a list of its own, with a recorded line above 16.
@@ -482,6 +519,29 @@ impl Counts {
         self.gates.high_totals += u64::from(totals.0 > 65_535);
     }
 
+    /// Counts a page by what its lines say; one without bytes was refused.
+    pub fn page(&mut self, page: &[u8]) {
+        let lines: Vec<&str> = std::str::from_utf8(page)
+            .expect("a page is text")
+            .lines()
+            .collect();
+        let last = |line: &str| -> u32 {
+            let column = line[10..].trim_start();
+            column.parse().expect("a line ends with a number")
+        };
+        let numbers = |kind: char| -> Vec<u32> {
+            let of_kind = lines.iter().filter(|line| line.starts_with(kind));
+            of_kind.map(|line| last(line)).collect()
+        };
+        let (cars, totals) = (numbers('L'), numbers('T'));
+        let pages = &mut self.pages;
+        pages.eight_zones += u64::from(numbers('Z').len() == 8);
+        pages.empty_lines += u64::from(cars.contains(&0));
+        pages.high_lines += u64::from(cars.iter().any(|&cars| cars > 65_535));
+        pages.high_totals += u64::from(totals.iter().any(|&total| total > 65_535));
+        pages.widest_totals += u64::from(totals.iter().any(|&total| total > 99_999));
+    }
+
     /// The floors that were not reached, each with what was counted.
     pub fn missed(&self) -> Vec<String> {
         let mut missed = Vec::new();
@@ -528,6 +588,7 @@ impl Counts {
         others.extend(self.gates.others());
         others.extend(self.remaining.others());
         others.extend(self.empty.others());
+        others.extend(self.pages.others());
         others
     }
 

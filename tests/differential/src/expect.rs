@@ -8,7 +8,7 @@ use second::generate::edition_of;
 use second::print::MOST_BYTES;
 use second::random::Random;
 use second::site::{Call, Direction, Run};
-use second::{journal, recording};
+use second::{journal, page, recording};
 
 /// Narrows a refusal number, or how many items remain.
 pub fn number(number: impl TryInto<u8>) -> u8 {
@@ -107,14 +107,13 @@ pub struct Made {
     pub refusal: u32,
     pub position: usize,
     pub bytes: Vec<u8>,
-    /// The recorded total; a journal has none, which is 0.
+    /// The recorded total, which a recording alone tells; else 0.
     pub total: u32,
 }
 
-/// A writer of the second implementation: it gives the refusal, the number of bytes and the total.
-type Writer = fn(&Run, &mut [u8]) -> (u32, usize, u32);
-
-fn made(run: Option<&Run>, write: Writer) -> Made {
+/// What a writer of the second implementation makes; it gives the refusal, the number of bytes and
+/// the total.
+fn made(run: Option<&Run>, write: impl Fn(&Run, &mut [u8]) -> (u32, usize, u32)) -> Made {
     let mut lent = [0; MOST_BYTES];
     let (refusal, written, total) = run.map_or((1, 0, 0), |run| write(run, &mut lent));
     Made {
@@ -125,15 +124,42 @@ fn made(run: Option<&Run>, write: Writer) -> Made {
     }
 }
 
+/// The same of a writer that tells no total.
+fn made_alone(run: Option<&Run>, write: fn(&Run, &mut [u8]) -> (u32, usize)) -> Made {
+    made(run, |run, lent| {
+        let (refusal, written) = write(run, lent);
+        (refusal, written, 0)
+    })
+}
+
 pub fn recording(run: Option<&Run>) -> Made {
     made(run, recording::write)
 }
 
+pub fn page(run: Option<&Run>) -> Made {
+    made_alone(run, page::write)
+}
+
 pub fn journal(run: Option<&Run>) -> Made {
-    made(run, |run, lent| {
-        let (refusal, written) = journal::write(run, lent);
-        (refusal, written, 0)
-    })
+    made_alone(run, journal::write)
+}
+
+/// What each writer makes of a run.
+#[derive(Clone, Debug)]
+pub struct Writings {
+    pub recording: Made,
+    pub page: Made,
+    pub journal: Made,
+}
+
+impl Writings {
+    pub fn of(run: Option<&Run>) -> Writings {
+        Writings {
+            recording: recording(run),
+            page: page(run),
+            journal: journal(run),
+        }
+    }
 }
 
 /// The edition of a journal's header; 0, which is none, where it has no header.
@@ -141,10 +167,10 @@ pub fn edition(bytes: &[u8]) -> u32 {
     bytes.get(..2).map_or(0, edition_of)
 }
 
-/// What cut_journal_record makes of a reading.
-pub fn recorded(reading: &journal::Reading) -> Made {
+/// What a call on a journal makes of its reading, where it makes this of a run.
+pub fn of_reading(reading: &journal::Reading, make: fn(Option<&Run>) -> Made) -> Made {
     match reading.refusal {
-        0 => recording(Some(&reading.run)),
+        0 => make(Some(&reading.run)),
         refusal => Made {
             refusal,
             position: reading.position,
@@ -189,6 +215,14 @@ impl Made {
         let more = enough + random.within(1, most) as usize;
         let any = random.below(enough + 1);
         [enough.saturating_sub(1), enough, more, any].map(|length| pattern(random, length))
+    }
+
+    /// The same for a page, and none, five more, and as many as are enough for any.
+    pub fn page_lents(&self, random: &mut Random) -> Vec<Vec<u8>> {
+        let mut lents = self.lents(random).to_vec();
+        let lengths = [0, self.bytes.len() + 5, header::page_bytes()];
+        lents.extend(lengths.map(|length| pattern(random, length)));
+        lents
     }
 }
 

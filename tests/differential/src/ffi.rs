@@ -225,6 +225,14 @@ mod raw {
             out: *mut u8,
             size: usize,
         ) -> PlainWritten;
+        pub fn cut_site_page(
+            head: PlainHead,
+            items: *const u16,
+            lens: *const u8,
+            journal: *const u16,
+            out: *mut u8,
+            size: usize,
+        ) -> PlainWritten;
         pub fn cut_journal_write(
             head: PlainHead,
             items: *const u16,
@@ -235,6 +243,12 @@ mod raw {
         ) -> PlainWritten;
         pub fn cut_journal_read(bytes: *const u8, size: usize) -> PlainReading;
         pub fn cut_journal_record(
+            bytes: *const u8,
+            size: usize,
+            out: *mut u8,
+            room: usize,
+        ) -> PlainWritten;
+        pub fn cut_journal_page(
             bytes: *const u8,
             size: usize,
             out: *mut u8,
@@ -327,32 +341,32 @@ pub fn cut_site_leave(run: &mut PlainRun, zone: u8, cars: u8) -> PlainReceived {
     run.store(answer)
 }
 
-pub fn cut_site_record(run: &PlainRun, out: &mut [u8]) -> PlainWritten {
+/// A call that writes what it makes of the parts of a run.
+type RunWriter = unsafe extern "C" fn(
+    PlainHead,
+    *const u16,
+    *const u8,
+    *const u16,
+    *mut u8,
+    usize,
+) -> PlainWritten;
+
+fn write(writer: RunWriter, run: &PlainRun, out: &mut [u8]) -> PlainWritten {
     let (items, lens, journal) = (run.items.as_ptr(), run.lens.as_ptr(), run.journal.as_ptr());
-    unsafe {
-        raw::cut_site_record(
-            run.head(),
-            items,
-            lens,
-            journal,
-            out.as_mut_ptr(),
-            out.len(),
-        )
-    }
+    let (bytes, size) = (out.as_mut_ptr(), out.len());
+    unsafe { writer(run.head(), items, lens, journal, bytes, size) }
+}
+
+pub fn cut_site_record(run: &PlainRun, out: &mut [u8]) -> PlainWritten {
+    write(raw::cut_site_record, run, out)
+}
+
+pub fn cut_site_page(run: &PlainRun, out: &mut [u8]) -> PlainWritten {
+    write(raw::cut_site_page, run, out)
 }
 
 pub fn cut_journal_write(run: &PlainRun, out: &mut [u8]) -> PlainWritten {
-    let (items, lens, journal) = (run.items.as_ptr(), run.lens.as_ptr(), run.journal.as_ptr());
-    unsafe {
-        raw::cut_journal_write(
-            run.head(),
-            items,
-            lens,
-            journal,
-            out.as_mut_ptr(),
-            out.len(),
-        )
-    }
+    write(raw::cut_journal_write, run, out)
 }
 
 pub fn cut_journal_read(bytes: &[u8]) -> PlainReading {
@@ -361,4 +375,8 @@ pub fn cut_journal_read(bytes: &[u8]) -> PlainReading {
 
 pub fn cut_journal_record(bytes: &[u8], out: &mut [u8]) -> PlainWritten {
     unsafe { raw::cut_journal_record(bytes.as_ptr(), bytes.len(), out.as_mut_ptr(), out.len()) }
+}
+
+pub fn cut_journal_page(bytes: &[u8], out: &mut [u8]) -> PlainWritten {
+    unsafe { raw::cut_journal_page(bytes.as_ptr(), bytes.len(), out.as_mut_ptr(), out.len()) }
 }

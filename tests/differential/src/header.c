@@ -55,6 +55,16 @@ cut_written header_record(const cut_run *run, uint8_t *out, size_t size)
     return cut_record(run, out, size);
 }
 
+cut_written header_page(const cut_run *run, uint8_t *out, size_t size)
+{
+    return cut_page(run, out, size);
+}
+
+size_t header_page_bytes(void)
+{
+    return CUT_PAGE_BYTES;
+}
+
 cut_written header_write(const cut_run *run, uint8_t *out, size_t size)
 {
     return cut_write(run, out, size);

@@ -23,6 +23,8 @@ mod raw {
         pub fn header_enter(run: *mut PlainRun, zone: u8, cars: u8) -> u8;
         pub fn header_leave(run: *mut PlainRun, zone: u8, cars: u8) -> u8;
         pub fn header_record(run: *const PlainRun, out: *mut u8, size: usize) -> PlainWritten;
+        pub fn header_page(run: *const PlainRun, out: *mut u8, size: usize) -> PlainWritten;
+        pub fn header_page_bytes() -> usize;
         pub fn header_write(run: *const PlainRun, out: *mut u8, size: usize) -> PlainWritten;
         pub fn header_opening_sum(opening: *const PlainOpening) -> u64;
         pub fn header_step_sum(step: *const PlainStep) -> u64;
@@ -67,6 +69,15 @@ pub fn leave(run: &mut PlainRun, zone: u8, cars: u8) -> u8 {
 
 pub fn record(run: &PlainRun, out: &mut [u8]) -> PlainWritten {
     unsafe { raw::header_record(run, out.as_mut_ptr(), out.len()) }
+}
+
+pub fn page(run: &PlainRun, out: &mut [u8]) -> PlainWritten {
+    unsafe { raw::header_page(run, out.as_mut_ptr(), out.len()) }
+}
+
+/// As many bytes as the header says are enough for any page.
+pub fn page_bytes() -> usize {
+    unsafe { raw::header_page_bytes() }
 }
 
 pub fn write(run: &PlainRun, out: &mut [u8]) -> PlainWritten {

@@ -1,13 +1,29 @@
-//! Random and damaged journals: reading, and recording what was read.
+//! Random and damaged journals: reading, and the recording and the page of what was read.
 
-use crate::count::{Counts, Entry, Failure, Found};
-use crate::expect::{self, Made};
-use crate::ffi;
+use crate::count::{Counts, Failure, Found};
+use crate::expect::{self, Made, Writings};
 use crate::pair;
 use crate::text;
-use second::generate::{journal_of, KINDS};
+use second::edition::EDITIONS;
+use second::generate::{bytes_of, journal_of, KINDS};
 use second::journal::{self, words_of, Reading};
+use second::limits::{self, high};
 use second::random::{cars, edition, Random};
+
+/// The journals of runs at the limits of what a journal, a recording or a page holds.
+pub fn every(counts: &mut Counts, random: &mut Random) -> Result<(), Failure> {
+    let mut runs = EDITIONS.map(limits::widest).to_vec();
+    runs.extend([
+        limits::longest(),
+        limits::gates(),
+        limits::doubled(),
+        limits::heaviest(),
+    ]);
+    for run in &runs {
+        check(counts, random, &bytes_of(run))?;
+    }
+    Ok(())
+}
 
 /// A generated journal, then the same with more and more damage.
 pub fn trial(counts: &mut Counts, random: &mut Random, index: usize) -> Result<(), Failure> {
@@ -23,6 +39,10 @@ pub fn trial(counts: &mut Counts, random: &mut Random, index: usize) -> Result<(
     }
     if random.chance(10) {
         let bytes = noise(random);
+        check(counts, random, &bytes)?;
+    }
+    if random.chance(5) {
+        let bytes = bytes_of(&high(random));
         check(counts, random, &bytes)?;
     }
     Ok(())
@@ -41,21 +61,20 @@ fn read(counts: &mut Counts, random: &mut Random, bytes: &[u8]) -> Result<(), Fo
         counts.gate_record(edition, word, reading.refusal);
         counts.refused_reading(journal::read(&before).remaining);
     }
-    let recording = expect::recorded(&reading);
-    for lent in recording.lents(random) {
-        let expected = recording.output(&lent);
-        let proved = expect::written(&lent, |out| ffi::cut_journal_record(bytes, out));
-        counts.same(Entry::JournalRecord, edition, &expected, &proved)?;
-    }
-    if reading.refusal == 0 {
+    let writings = Writings {
+        recording: expect::of_reading(&reading, expect::recording),
+        page: expect::of_reading(&reading, expect::page),
         // What is accepted is written back as the same bytes.
-        let journal = Made {
+        journal: Made {
             refusal: 0,
             position: 0,
             bytes: bytes.to_vec(),
             total: 0,
-        };
-        pair::writers(counts, random, &proved.run, &recording, &journal)?;
+        },
+    };
+    pair::journal_writers(counts, random, bytes, &writings)?;
+    if reading.refusal == 0 {
+        pair::writers(counts, random, &proved.run, &writings)?;
     }
     Ok(())
 }

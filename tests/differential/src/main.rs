@@ -14,7 +14,7 @@ type Trial = fn(&mut Counts, &mut Random, usize) -> Result<(), Failure>;
 
 /// The kinds of trials with their numbers in one round.
 const KINDS: [(&str, usize, Trial); 5] = [
-    ("every zone argument and edition", 1, every),
+    ("every zone argument and edition, and the limits", 1, every),
     ("zones", 20_000, zones::trial),
     ("lists of calls", 15_000, calls::trial),
     ("journals", 6_000, journals::trial),
@@ -24,6 +24,7 @@ const KINDS: [(&str, usize, Trial); 5] = [
 fn every(counts: &mut Counts, random: &mut Random, _: usize) -> Result<(), Failure> {
     zones::every(counts, random)?;
     calls::every(counts, random)?;
+    journals::every(counts, random)?;
     states::every(counts, random)
 }
 

@@ -2,8 +2,8 @@
 
 use crate::compare::{one, Difference};
 use crate::count::{Check, Counts, Entry, Failure, Found, Gate, Receipt};
-use crate::expect::{self, Made};
-use crate::ffi::{self, PlainAnswer, PlainReading, PlainRun};
+use crate::expect::{self, Made, Writings};
+use crate::ffi::{self, PlainAnswer, PlainReading, PlainRun, PlainWritten};
 use crate::header;
 use crate::plain;
 use crate::text;
@@ -185,28 +185,78 @@ pub fn call(
     Ok(proved)
 }
 
-/// Compares recording and journal writing of one struct with lent bytes of several lengths.
+/// A call that writes what it makes of a run into lent bytes, and the same of a journal.
+type Writer = fn(&PlainRun, &mut [u8]) -> PlainWritten;
+type JournalWriter = fn(&[u8], &mut [u8]) -> PlainWritten;
+
+/// The bytes that are lent to a call, of several lengths.
+fn lents(random: &mut Random, entry: Entry, made: &Made) -> Vec<Vec<u8>> {
+    match entry {
+        Entry::SitePage | Entry::JournalPage => made.page_lents(random),
+        _ => made.lents(random).to_vec(),
+    }
+}
+
+/// Compares all that is written of one struct, by the library and by the headers' inline calls.
 pub fn writers(
     counts: &mut Counts,
     random: &mut Random,
     p: &PlainRun,
-    recording: &Made,
-    journal: &Made,
+    writings: &Writings,
 ) -> Result<(), Found> {
-    let edition = u32::from(p.edition);
-    for lent in recording.lents(random) {
-        let proved = expect::written(&lent, |out| ffi::cut_site_record(p, out));
-        let expected = recording.output(&lent);
-        counts.same(Entry::SiteRecord, edition, &expected, &proved)?;
-        let by_header = expect::written(&lent, |out| header::record(p, out));
-        counts.equal(Entry::SiteRecord, &proved, &by_header)?;
+    let calls: [(Entry, &Made, Writer, Writer); 3] = [
+        (
+            Entry::SiteRecord,
+            &writings.recording,
+            ffi::cut_site_record,
+            header::record,
+        ),
+        (
+            Entry::SitePage,
+            &writings.page,
+            ffi::cut_site_page,
+            header::page,
+        ),
+        (
+            Entry::JournalWrite,
+            &writings.journal,
+            ffi::cut_journal_write,
+            header::write,
+        ),
+    ];
+    for (entry, made, library, inline) in calls {
+        for lent in lents(random, entry, made) {
+            let proved = expect::written(&lent, |out| library(p, out));
+            counts.same(entry, u32::from(p.edition), &made.output(&lent), &proved)?;
+            let by_header = expect::written(&lent, |out| inline(p, out));
+            counts.equal(entry, &proved, &by_header)?;
+        }
     }
-    for lent in journal.lents(random) {
-        let proved = expect::written(&lent, |out| ffi::cut_journal_write(p, out));
-        let expected = journal.output(&lent);
-        counts.same(Entry::JournalWrite, edition, &expected, &proved)?;
-        let by_header = expect::written(&lent, |out| header::write(p, out));
-        counts.equal(Entry::JournalWrite, &proved, &by_header)?;
+    counts.page(&writings.page.bytes);
+    Ok(())
+}
+
+/// Compares the recording and the page that are written of a journal.
+pub fn journal_writers(
+    counts: &mut Counts,
+    random: &mut Random,
+    journal: &[u8],
+    writings: &Writings,
+) -> Result<(), Found> {
+    let edition = expect::edition(journal);
+    let calls: [(Entry, &Made, JournalWriter); 2] = [
+        (
+            Entry::JournalRecord,
+            &writings.recording,
+            ffi::cut_journal_record,
+        ),
+        (Entry::JournalPage, &writings.page, ffi::cut_journal_page),
+    ];
+    for (entry, made, library) in calls {
+        for lent in lents(random, entry, made) {
+            let proved = expect::written(&lent, |out| library(journal, out));
+            counts.same(entry, edition, &made.output(&lent), &proved)?;
+        }
     }
     Ok(())
 }
@@ -340,19 +390,19 @@ impl<'a> Pair<'a> {
     /// Compares everything that writes and reads at this moment, and checks demand 3 on the bytes
     /// that the proved code wrote. Gives the recording.
     fn write(&mut self) -> Result<Made, Failure> {
-        let recording = expect::recording(Some(&self.run));
-        let journal = expect::journal(Some(&self.run));
-        self.write_both(&recording, &journal)
+        let writings = Writings::of(Some(&self.run));
+        self.write_all(&writings)
             .map_err(|found| self.failure("the writers and the reader".to_string(), found))?;
-        Ok(recording)
+        Ok(writings.recording)
     }
 
-    fn write_both(&mut self, recording: &Made, journal: &Made) -> Result<(), Found> {
+    fn write_all(&mut self, writings: &Writings) -> Result<(), Found> {
         let random = &mut self.random;
-        writers(self.counts, random, &self.plain, recording, journal)?;
+        writers(self.counts, random, &self.plain, writings)?;
 
-        // The journal that was written reads back as the same run and has the same recording.
-        let mut bytes = vec![0; journal.bytes.len()];
+        // The journal that was written reads back as the same run and has the same recording and
+        // page.
+        let mut bytes = vec![0; writings.journal.bytes.len()];
         ffi::cut_journal_write(&self.plain, &mut bytes);
         let expected = PlainReading {
             refusal: 0,
@@ -360,14 +410,8 @@ impl<'a> Pair<'a> {
             remaining: self.remaining,
             run: self.plain,
         };
-        let edition = self.run.edition;
-        read(self.counts, edition, &bytes, &expected)?;
-        for lent in recording.lents(random) {
-            let expected = recording.output(&lent);
-            let proved = expect::written(&lent, |out| ffi::cut_journal_record(&bytes, out));
-            self.counts
-                .same(Entry::JournalRecord, edition, &expected, &proved)?;
-        }
+        read(self.counts, self.run.edition, &bytes, &expected)?;
+        journal_writers(self.counts, random, &bytes, writings)?;
         self.demand_3()
     }
 

@@ -2,7 +2,7 @@
 
 use crate::calls::stray;
 use crate::count::{Counts, Failure, Found};
-use crate::expect;
+use crate::expect::{self, Writings};
 use crate::ffi::{PlainLocal, PlainRun, PlainSaved};
 use crate::pair;
 use crate::plain::{self, place};
@@ -81,9 +81,7 @@ fn check(counts: &mut Counts, random: &mut Random, p: &PlainRun) -> Result<(), F
 
 fn writers(counts: &mut Counts, random: &mut Random, p: &PlainRun) -> Result<(), Found> {
     let run = plain::run_of(p);
-    let recording = expect::recording(run.as_ref());
-    let journal = expect::journal(run.as_ref());
-    pair::writers(counts, random, p, &recording, &journal)
+    pair::writers(counts, random, p, &Writings::of(run.as_ref()))
 }
 
 /// How many kinds of calls take turns.

@@ -2,18 +2,20 @@
 
 use differential::compare::{Answer, Output};
 use differential::count::{
-    Check, Counts, Empty, Entry, Gate, Gates, Remaining, CHECKS, EMPTY, ENTRIES, GATES, HEADINGS,
-    LEAST_ABOVE, LEAST_ANSWERS, LEAST_CHECKS, LEAST_EMPTY, LEAST_GATES, LEAST_REMAINING,
-    LEAST_TURNED, WRONG_WAYS,
+    Check, Counts, Empty, Entry, Gate, Gates, Pages, Remaining, CHECKS, EMPTY, ENTRIES, GATES,
+    HEADINGS, LEAST_ABOVE, LEAST_ANSWERS, LEAST_CHECKS, LEAST_EMPTY, LEAST_GATES, LEAST_PAGES,
+    LEAST_REMAINING, LEAST_TURNED, WRONG_WAYS,
 };
-use differential::expect::{self, Made};
-use differential::ffi::{self, PlainAnswer, PlainReading, PlainRun, PlainStep};
+use differential::expect::{self, Made, Writings};
+use differential::ffi::{self, PlainAnswer, PlainReading, PlainRun, PlainStep, PlainWritten};
 use differential::pair;
 use differential::plain::place;
 use second::edition::EDITIONS;
 use second::generate::{bytes_of, case_b, with_edition, WAITING, WAITING_REFUSED};
 use second::journal;
-use second::site::{Call, Direction, PLACES};
+use second::limits;
+use second::random::Random;
+use second::site::{Call, Direction, Run, PLACES};
 
 const SEND: Call = Call::HandOver {
     from: 1,
@@ -100,27 +102,41 @@ fn a_wrong_answer_of_the_reader_is_found() {
     assert_eq!(changed, "run.zones[1].stock");
 }
 
-/// The recording of case B with some more bytes lent.
-fn recorded() -> (Made, Output) {
+/// The recording of case B, and its page, each with some more bytes lent.
+fn written() -> [(Made, Output); 2] {
     let journal = bytes_of(&case_b());
-    let made = expect::recording(Some(&case_b()));
-    let lent = vec![7; made.bytes.len() + 5];
-    let output = expect::written(&lent, |out| ffi::cut_journal_record(&journal, out));
-    assert_eq!(made.output(&lent).check(&output), Ok(()));
-    (made, output)
+    let Writings {
+        recording, page, ..
+    } = Writings::of(Some(&case_b()));
+    type Call = fn(&[u8], &mut [u8]) -> PlainWritten;
+    let calls: [(Made, Call); 2] = [
+        (recording, ffi::cut_journal_record),
+        (page, ffi::cut_journal_page),
+    ];
+    calls.map(|(made, call)| {
+        let lent = vec![7; made.bytes.len() + 5];
+        let output = expect::written(&lent, |out| call(&journal, out));
+        assert_eq!(made.output(&lent).check(&output), Ok(()));
+        (made, output)
+    })
 }
 
 #[test]
 fn a_wrong_answer_of_a_writer_is_found() {
-    let (made, right) = recorded();
+    for (made, right) in written() {
+        finds_a_wrong_answer(&made, &right);
+    }
+}
+
+fn finds_a_wrong_answer(made: &Made, right: &Output) {
     let last = made.bytes.len() - 1;
-    let changed = |place: usize| field(&right, |output| output.bytes[place] ^= 1);
+    let changed = |place: usize| field(right, |output| output.bytes[place] ^= 1);
     assert_eq!(changed(0), "bytes[0]");
     assert_eq!(changed(last), format!("bytes[{last}]"));
     // Behind the written bytes, and behind the lent ones.
     assert_eq!(changed(last + 1), format!("bytes[{}]", last + 1));
     assert_eq!(changed(last + 6), format!("bytes[{}]", last + 6));
-    let field = |change: fn(&mut Output)| field(&right, change);
+    let field = |change: fn(&mut Output)| field(right, change);
     assert_eq!(field(|output| output.answer.written -= 1), "written");
     assert_eq!(field(|output| output.answer.total += 65_536), "total");
     assert_eq!(field(|output| output.answer.position = 1), "position");
@@ -131,6 +147,70 @@ fn a_wrong_answer_of_a_writer_is_found() {
         }),
         "length of bytes"
     );
+}
+
+/// A whole comparison of the writers fails when another page is expected, of a run and of a
+/// journal.
+#[test]
+fn a_page_against_a_wrong_expectation_fails() {
+    let (mut counts, mut random) = (Counts::default(), Random::new(1));
+    let journal = bytes_of(&case_b());
+    let run = ffi::cut_journal_read(&journal).run;
+    let right = Writings::of(Some(&case_b()));
+    let mut compared = |writings: &Writings| {
+        let of_run = pair::writers(&mut counts, &mut random, &run, writings);
+        let of_journal = pair::journal_writers(&mut counts, &mut random, &journal, writings);
+        [of_run, of_journal]
+            .map(|compared| compared.map_err(|found| (found.name, found.difference.field)))
+    };
+    assert_eq!(compared(&right), [Ok(()), Ok(())]);
+    type Change = fn(&mut Made);
+    let changes: [(Change, &str); 4] = [
+        (|page| page.bytes[8] = b' ', "bytes[8]"),
+        (|page| page.bytes.truncate(51), "refusal"),
+        (|page| page.total = 30, "total"),
+        (|page| page.position = 1, "position"),
+    ];
+    for (change, field) in changes {
+        let mut wrong = right.clone();
+        change(&mut wrong.page);
+        let names = ["cut_site_page", "cut_journal_page"];
+        assert_eq!(
+            compared(&wrong),
+            names.map(|name| Err((name, field.to_string())))
+        );
+    }
+}
+
+/// What is counted of pages; one that was refused has no bytes.
+#[test]
+fn pages_are_counted() {
+    let mut counts = Counts::default();
+    let mut counted = |run: &Run| {
+        counts.page(&expect::page(Some(run)).bytes);
+        let Pages {
+            eight_zones,
+            empty_lines,
+            high_lines,
+            high_totals,
+            widest_totals,
+        } = counts.pages;
+        [
+            eight_zones,
+            empty_lines,
+            high_lines,
+            high_totals,
+            widest_totals,
+        ]
+    };
+    assert_eq!(counted(&Run::refused()), [0, 0, 0, 0, 0]);
+    assert_eq!(counted(&case_b()), [0, 0, 0, 0, 0]);
+    assert_eq!(counted(&limits::widest(1)), [1, 0, 0, 0, 0]);
+    assert_eq!(counted(&limits::heaviest()), [1, 0, 1, 1, 0]);
+    assert_eq!(counted(&limits::doubled()), [1, 0, 1, 2, 1]);
+    let mut empty = Run::open(1, 2, &[0, 0]).1;
+    assert_eq!((empty.hand_over(1, 2, 0), empty.start(1)), (0, 0));
+    assert_eq!(counted(&empty), [1, 1, 1, 2, 1]);
 }
 
 #[test]
@@ -423,6 +503,13 @@ fn enough() -> Counts {
             zeros: [LEAST_EMPTY; 3],
             complete: [LEAST_EMPTY; 3],
         },
+        pages: Pages {
+            eight_zones: LEAST_PAGES,
+            empty_lines: LEAST_PAGES,
+            high_lines: LEAST_PAGES,
+            high_totals: LEAST_PAGES,
+            widest_totals: LEAST_PAGES,
+        },
         turned: [LEAST_TURNED; 3],
         above: [LEAST_ABOVE; 3],
         comparisons: 0,
@@ -437,10 +524,11 @@ fn the_floors_are_those_of_all_that_is_counted() {
     let gates = GATES + 1 + editions + WRONG_WAYS.len() + 1 + 2;
     let remaining = editions * PLACES + 6;
     let empty = EMPTY.iter().map(|numbers| numbers.len()).sum::<usize>() + editions * 2;
+    let pages = 5;
     let missed = Counts::default().missed().len();
     assert_eq!(
         missed,
-        numbers + editions * (CHECKS + 2) + gates + remaining + empty
+        numbers + editions * (CHECKS + 2) + gates + remaining + empty + pages
     );
     assert_eq!(enough().missed(), Vec::<String>::new());
 }
@@ -513,6 +601,24 @@ fn a_missed_floor_of_openings_without_stocks_is_reported() {
     assert!(zeros.contains("openings with too few or too many zeros, edition 2: 99 times"));
     let complete = missed(|counts| counts.empty.complete[2] -= 1);
     assert!(complete.contains("complete recordings from no stocks, edition 3: 99 times"));
+}
+
+#[test]
+fn a_missed_floor_of_pages_is_reported() {
+    let page = missed(|counts| counts.times[0][Entry::SitePage as usize][1] -= 1);
+    assert!(page.contains("cut_site_page answering 1, edition 1: 99 times"));
+    let page = missed(|counts| counts.times[2][Entry::JournalPage as usize][14] -= 1);
+    assert!(page.contains("cut_journal_page answering 14, edition 3: 99 times"));
+    let zones = missed(|counts| counts.pages.eight_zones -= 1);
+    assert!(zones.contains("pages with 8 zones: 99 times"));
+    let line = missed(|counts| counts.pages.empty_lines -= 1);
+    assert!(line.contains("pages with a line of 0 cars: 99 times"));
+    let line = missed(|counts| counts.pages.high_lines -= 1);
+    assert!(line.contains("pages with a line above 65,535: 99 times"));
+    let total = missed(|counts| counts.pages.high_totals -= 1);
+    assert!(total.contains("pages with a total above 65,535: 99 times"));
+    let total = missed(|counts| counts.pages.widest_totals -= 1);
+    assert!(total.contains("pages with a total of six digits: 99 times"));
 }
 
 /// An opening is counted where it was given no stocks, or zeros that are refused with 3.

@@ -4,8 +4,9 @@ use differential::ffi::{
     self, PlainAnswer, PlainHeadAnswer, PlainOpening, PlainReading, PlainReceived, PlainRun,
     PlainSaved, PlainStep, PlainWritten, PlainZone,
 };
-use differential::header::Summed;
+use differential::header::{self, Summed};
 use differential::plain::ZEROS;
+use second::page;
 use second::random::Random;
 
 fn add(sum: u64, value: impl Into<u64>) -> u64 {
@@ -155,6 +156,11 @@ fn what_writing_answers_has_the_same_fields() {
         let sum = add(add(add(0, refusal), total), position as u64);
         assert_eq!(answer.sum(), add(sum, written as u64));
     }
+}
+
+#[test]
+fn as_many_bytes_as_any_page_has() {
+    assert_eq!(header::page_bytes(), page::MOST_BYTES);
 }
 
 #[test]

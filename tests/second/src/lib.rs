@@ -9,6 +9,8 @@ pub mod demand3;
 pub mod edition;
 pub mod generate;
 pub mod journal;
+pub mod limits;
+pub mod page;
 pub mod print;
 pub mod random;
 pub mod recording;

@@ -1,4 +1,4 @@
-//! The recording of a run, as bytes, and its total.
+//! The recording of a run: what it shows, its bytes and its total.
 
 use crate::edition::is_traffic;
 use crate::journal;
@@ -13,66 +13,104 @@ struct Sent {
     received_inside: bool,
 }
 
+/// What the recording shows of a zone.
+#[derive(Clone, Copy, Debug)]
+pub struct ShownZone {
+    pub firm: bool,
+    pub events: u32,
+    pub stock: u32,
+}
+
+/// By sender, then receiver: the cars of the recorded items of each line, in the order sent.
+pub type Lines = [[Vec<u8>; 8]; 8];
+
+/// What the recording shows, whether it is written as words or as a page.
+pub struct Shown {
+    pub zones: Vec<ShownZone>,
+    pub lines: Lines,
+    /// The recorded total: the stocks and the cars on lines that are shown. It "may exceed 65,535",
+    /// for the zones are shown as of different moments.
+    pub total: u32,
+}
+
 /// Writes the recording and gives the refusal, the number of bytes written and the recorded total.
 pub fn write(run: &Run, lent: &mut [u8]) -> (u32, usize, u32) {
+    let shown = match shown(run) {
+        Ok(shown) => shown,
+        Err(refusal) => return (refusal, 0, 0),
+    };
+    match journal::lend(&journal::bytes_of(&words(run, &shown)), lent) {
+        (0, written) => (0, written, shown.total),
+        (refusal, _) => (refusal, 0, 0),
+    }
+}
+
+/// Asks questions 1, 12 and 13, and gives what the recording shows or the refusal.
+pub fn shown(run: &Run) -> Result<Shown, u32> {
     if !run.true_run() {
-        return (1, 0, 0);
+        return Err(1);
     }
     if !run.started() {
-        return (12, 0, 0);
+        return Err(12);
     }
     if run.holds_request() {
-        return (13, 0, 0);
+        return Err(13);
     }
+    let zones: Vec<ShownZone> = (0..run.size()).map(|index| zone(run, index)).collect();
     let lines = recorded_lines(run);
+    let stocks = zones.iter().map(|zone| zone.stock);
+    let cars = lines.iter().flatten().flatten();
+    let cars = cars.map(|&cars| u32::from(cars));
+    let total = stocks.sum::<u32>() + cars.sum::<u32>();
+    Ok(Shown {
+        zones,
+        lines,
+        total,
+    })
+}
+
+/// The words of the recording.
+fn words(run: &Run, shown: &Shown) -> Vec<u16> {
     let mut items = Vec::new();
     for (a, b) in run.pairs() {
-        for &cars in &lines[a][b] {
+        for &cars in &shown.lines[a][b] {
             let (from, to) = (a as u32 + 1, b as u32 + 1);
             items.push(journal::encode(Call::HandOver { from, to, cars }));
         }
     }
     let mut words = vec![journal::header(run.edition, run.count, items.len())];
-    for index in 0..run.size() {
-        let (firm, events, stock) = shown(run, index);
-        words.push(u16::from(firm) << 15 | events as u16);
-        words.push(stock as u16);
+    for zone in &shown.zones {
+        words.push(u16::from(zone.firm) << 15 | zone.events as u16);
+        words.push(zone.stock as u16);
     }
     words.extend(items);
-    match journal::lend(&journal::bytes_of(&words), lent) {
-        (0, written) => (0, written, total(run, &lines)),
-        (refusal, _) => (refusal, 0, 0),
-    }
+    words
 }
 
-/// The recorded total: the stocks that are shown and the cars on the lines that are shown. It "may
-/// exceed 65,535", for the zones are shown as of different moments.
-fn total(run: &Run, lines: &[[Vec<u8>; 8]; 8]) -> u32 {
-    let stocks = (0..run.size()).map(|index| shown(run, index).2);
-    let cars = lines
-        .iter()
-        .flatten()
-        .flatten()
-        .map(|&cars| u32::from(cars));
-    stocks.sum::<u32>() + cars.sum::<u32>()
-}
-
-/// What the recording shows of a zone: whether it is firm, its events and its stock.
-fn shown(run: &Run, index: usize) -> (bool, u32, u32) {
+/// What the recording shows of the zone at an index.
+fn zone(run: &Run, index: usize) -> ShownZone {
     match run.zones[index].mark {
-        Mark::Firm(saved) => (true, saved.events, saved.stock),
-        _ => (false, 0, u32::from(run.opening[index])),
+        Mark::Firm(saved) => ShownZone {
+            firm: true,
+            events: saved.events,
+            stock: saved.stock,
+        },
+        _ => ShownZone {
+            firm: false,
+            events: 0,
+            stock: u32::from(run.opening[index]),
+        },
     }
 }
 
 /// Replays the journal and gives, for each line, the hand-overs sent inside the sender's
 /// events and not received inside the receiver's. Line checks are passed over.
-fn recorded_lines(run: &Run) -> [[Vec<u8>; 8]; 8] {
+fn recorded_lines(run: &Run) -> Lines {
     let mut sent: [[Vec<Sent>; 8]; 8] = Default::default();
     let mut received = [[0; 8]; 8];
     let (_, mut replay) = Run::open(run.edition, run.count, &run.opening[..run.size()]);
     // The next own event of a zone is inside when its count is at most the events shown.
-    let inside = |replay: &Run, index: usize| replay.zones[index].events < shown(run, index).1;
+    let inside = |replay: &Run, index: usize| replay.zones[index].events < zone(run, index).events;
     for &word in &run.records {
         let call =
             journal::decode(run.edition, word).expect("the journal of a true run is well formed");

@@ -1,12 +1,14 @@
 //! The faults that a fitter would commit, each switched on in a small engine of this file.
 //!
 //! The checker of demand 3 has to find every one of them that it can see; the others show in the
-//! numbers of the calls or in the journal. The engine without a fault has to agree with the site engine.
+//! numbers of the calls, in the journal or on the page. The engine without a fault has to agree
+//! with the site engine.
 
 use second::demand3::{check, compare, look, Account, Event, Finding, Lines, Seen};
 use second::edition::EDITIONS;
 use second::generate::bytes_of;
 use second::journal;
+use second::page;
 use second::random::{drive, stocks, Random};
 use second::site::{Call, Direction, Run};
 use std::collections::{BTreeMap, VecDeque};
@@ -68,6 +70,22 @@ enum Fault {
     GateMarks,
     /// Gates are open in edition 2 too.
     GatesInEdition2,
+    /// The numbers of the page are left-aligned.
+    LeftAligned,
+    /// The same with zeros in place of the spaces in front of them.
+    ZerosInFront,
+    /// The page has F for a provisional mark too.
+    AnyMarkFirm,
+    /// The table of cars is receiver by sender.
+    Transposed,
+    /// The page leaves lines out that have no cars.
+    LeftOutByCars,
+    /// The lines of the page are by receiver, then sender.
+    ByReceiver,
+    /// 14 asks for the bytes of the recording where the page is written.
+    RecordingAsked,
+    /// A byte of 0 stands behind the page, as behind a string of C.
+    EndsWithZero,
 }
 
 /// A mark keeps whether it is firm, the stock and the number of own events.
@@ -86,6 +104,15 @@ struct Sent {
     cars: u8,
     sent: u32,
     received: Option<u32>,
+}
+
+/// What this engine shows of a complete recording: of each zone whether it is firm, its stock and
+/// its events; the lines; and the total.
+struct Shown {
+    firm: Vec<bool>,
+    zones: Vec<(u32, u32)>,
+    lines: Lines,
+    total: u32,
 }
 
 struct Fitter {
@@ -408,36 +435,40 @@ impl Fitter {
         0
     }
 
-    /// What is seen of this run from outside; the recording is written here too.
+    /// What is seen of this run from outside.
     fn look(&mut self, calls: Vec<(Call, u32)>) -> Seen {
-        let zones = self.zones();
-        let mut seen = Seen {
+        let shown = self.shown();
+        self.own.complete = shown.is_ok();
+        let (answer, bytes, total) = match shown {
+            Ok(shown) => (0, self.recording(&shown), shown.total),
+            Err(number) => (number, Vec::new(), 0),
+        };
+        Seen {
             edition: self.edition,
             opening: self.opening.clone(),
             calls,
-            answer: 0,
-            bytes: Vec::new(),
-            total: 0,
+            answer,
+            bytes,
+            total,
             stocks: self.stock.iter().map(|&stock| u64::from(stock)).collect(),
             lines: self.present(|_, _| true),
-        };
-        let firm: Vec<bool> = self
-            .mark
-            .iter()
+        }
+    }
+
+    /// What a recording or a page shows, or 12 or 13.
+    fn shown(&self) -> Result<Shown, u32> {
+        let marks = self.mark.iter();
+        let firm: Vec<bool> = marks
             .map(|mark| matches!(mark, Some((true, _, _))))
             .collect();
-        let requests = self
-            .lines
-            .iter()
-            .flatten()
-            .flatten()
-            .any(|item| matches!(item, Item::Request(_)));
-        self.own.complete = firm.contains(&true) && !requests;
-        if !self.own.complete {
-            seen.answer = if requests { 13 } else { 12 };
-            return seen;
+        let mut items = self.lines.iter().flatten().flatten();
+        if !firm.contains(&true) {
+            return Err(12);
         }
-        let shown: Vec<(u32, u32)> = (0..zones)
+        if items.any(|item| matches!(item, Item::Request(_))) {
+            return Err(13);
+        }
+        let zones: Vec<(u32, u32)> = (0..self.zones())
             .map(|zone| match self.mark[zone] {
                 Some((true, stock, events)) => (stock, events),
                 _ => (u32::from(self.opening[zone]), 0),
@@ -445,41 +476,132 @@ impl Fitter {
             .collect();
         let lines = match self.fault {
             Fault::PresentLines => self.traffic(|_, _| true),
-            Fault::PresentInsideLines => self.traffic(|a, count| count <= shown[a].1),
-            _ => self.recorded(&shown),
+            Fault::PresentInsideLines => self.traffic(|a, count| count <= zones[a].1),
+            _ => self.recorded(&zones),
         };
-        let items: Vec<u16> = (0..zones)
-            .flat_map(|a| (0..zones).map(move |b| (a, b)))
+        let total = self.total(&zones, &lines);
+        Ok(Shown {
+            firm,
+            zones,
+            lines,
+            total,
+        })
+    }
+
+    fn total(&self, zones: &[(u32, u32)], lines: &Lines) -> u32 {
+        match self.fault {
+            Fault::EntriesNotInTotal => self.opening_total() - self.exits(zones),
+            Fault::OpeningTotal => self.opening_total(),
+            Fault::PresentTotal => self.present_total(),
+            _ => {
+                let items = lines.iter().flatten().flatten();
+                let cars = items.map(|&cars| u32::from(cars));
+                zones.iter().map(|zone| zone.0).sum::<u32>() + cars.sum::<u32>()
+            }
+        }
+    }
+
+    /// The bytes of the recording.
+    fn recording(&self, shown: &Shown) -> Vec<u8> {
+        let items: Vec<u16> = self
+            .pairs()
             .flat_map(|(a, b)| {
                 let word = (a << 11 | b << 8) as u16;
-                lines[a][b].iter().map(move |&cars| word | u16::from(cars))
+                let line = shown.lines[a][b].iter();
+                line.map(move |&cars| word | u16::from(cars))
             })
             .collect();
         let edition = match self.fault {
             Fault::HeaderOfEdition1 => 1,
             _ => self.edition as usize,
         };
-        let mut words = vec![(edition << 13 | (zones - 1) << 10 | items.len()) as u16];
-        for zone in 0..zones {
-            words.push(u16::from(firm[zone]) << 15 | shown[zone].1 as u16);
-            words.push(shown[zone].0 as u16);
+        let front = edition << 13 | (self.zones() - 1) << 10;
+        let mut words = vec![(front | items.len()) as u16];
+        for (&firm, &(stock, events)) in shown.firm.iter().zip(&shown.zones) {
+            words.push(u16::from(firm) << 15 | events as u16);
+            words.push(stock as u16);
         }
         words.extend(items);
-        seen.bytes = words.iter().flat_map(|word| word.to_be_bytes()).collect();
-        seen.total = match self.fault {
-            Fault::EntriesNotInTotal => self.opening_total() - self.exits(&shown),
-            Fault::OpeningTotal => self.opening_total(),
-            Fault::PresentTotal => self.present_total(),
-            _ => {
-                let cars = lines
-                    .iter()
-                    .flatten()
-                    .flatten()
-                    .map(|&cars| u32::from(cars));
-                shown.iter().map(|shown| shown.0).sum::<u32>() + cars.sum::<u32>()
-            }
+        words.iter().flat_map(|word| word.to_be_bytes()).collect()
+    }
+
+    /// The pairs of zones, by sender, then receiver.
+    fn pairs(&self) -> impl Iterator<Item = (usize, usize)> {
+        let zones = self.zones();
+        (0..zones).flat_map(move |a| (0..zones).map(move |b| (a, b)))
+    }
+
+    /// Writes the page and gives the refusal and the number of bytes written.
+    fn write_page(&self, lent: &mut [u8]) -> (u32, usize) {
+        let shown = match self.shown() {
+            Ok(shown) => shown,
+            Err(number) => return (number, 0),
         };
-        seen
+        let page = self.page(&shown);
+        let asked = match self.fault {
+            Fault::RecordingAsked => self.recording(&shown).len(),
+            _ => page.len(),
+        };
+        if lent.len() < asked {
+            return (14, 0);
+        }
+        let written = page.len().min(lent.len());
+        lent[..written].copy_from_slice(&page[..written]);
+        if self.fault == Fault::EndsWithZero && written < lent.len() {
+            lent[written] = 0;
+        }
+        (0, written)
+    }
+
+    /// The bytes of the page.
+    fn page(&self, shown: &Shown) -> Vec<u8> {
+        let mut page = Vec::new();
+        for (index, &(stock, events)) in shown.zones.iter().enumerate() {
+            let is_firm = match self.fault {
+                Fault::AnyMarkFirm => self.mark[index].is_some(),
+                _ => shown.firm[index],
+            };
+            let front = format!("Z{} {}", index + 1, if is_firm { "F" } else { "-" });
+            page.extend(self.row(&front, Some(events), stock));
+        }
+        let mut pairs: Vec<(usize, usize)> = self.pairs().collect();
+        if self.fault == Fault::ByReceiver {
+            pairs.sort_by_key(|&(a, b)| (b, a));
+        }
+        for (a, b) in pairs {
+            let (from, to) = match self.fault {
+                Fault::Transposed => (b, a),
+                _ => (a, b),
+            };
+            let line = shown.lines[from][to].iter();
+            let cars = line.map(|&cars| u32::from(cars)).sum();
+            let items = shown.lines[a][b].len() as u32;
+            let is_empty = items == 0 || self.fault == Fault::LeftOutByCars && cars == 0;
+            if !is_empty {
+                let front = format!("L{}{}", a + 1, b + 1);
+                page.extend(self.row(&front, Some(items), cars));
+            }
+        }
+        page.extend(self.row("T", None, shown.total));
+        page
+    }
+
+    /// A line of the page: its front, and numbers that end in its 9th and 16th column.
+    fn row(&self, front: &str, first: Option<u32>, second: u32) -> Vec<u8> {
+        let mut row = vec![b' '; 16];
+        row[..front.len()].copy_from_slice(front.as_bytes());
+        for (number, end, width) in [(first, 9, 4), (Some(second), 16, 6)] {
+            let column = number.map(|number| match self.fault {
+                Fault::LeftAligned => format!("{number:<width$}"),
+                Fault::ZerosInFront => format!("{number:0>width$}"),
+                _ => format!("{number:>width$}"),
+            });
+            if let Some(column) = column {
+                row[end - width..end].copy_from_slice(column.as_bytes());
+            }
+        }
+        row.push(b'\n');
+        row
     }
 
     fn opening_total(&self) -> u32 {
@@ -827,4 +949,67 @@ fn swapped_directions_in_the_record_are_caught() {
     });
     println!("swapped: {refused} journals refused, {other} with other stocks");
     assert!(refused >= 100 && other >= 100);
+}
+
+/// In how many lists the page is another one than the site's, or its number or a lent byte is: with
+/// one byte too few, just enough and some more.
+fn other_pages(fault: Fault, edition: u32) -> u32 {
+    let mut lists = 0;
+    each_run(fault, edition, 600, |seen, fitter| {
+        let zones = seen.opening.len() as u32;
+        let (_, mut run) = Run::open(edition, zones, &seen.opening);
+        for &(call, _) in &seen.calls {
+            run.call(call);
+        }
+        let (_, needed) = page::write(&run, &mut [0; page::MOST_BYTES]);
+        let is_other = |length: usize| {
+            let (mut right, mut wrong) = (vec![0xEE; length], vec![0xEE; length]);
+            page::write(&run, &mut right) != fitter.write_page(&mut wrong) || right != wrong
+        };
+        let lengths = [needed.saturating_sub(1), needed, needed + 5];
+        lists += u32::from(lengths.into_iter().any(is_other));
+    });
+    println!("{fault:?}, edition {edition}: other pages in {lists} lists");
+    lists
+}
+
+/// The fault shows on the page in some editions, often enough not to be luck, and in no others.
+fn must_show(fault: Fault, editions: &[u32]) {
+    for edition in EDITIONS {
+        let lists = other_pages(fault, edition);
+        let shows = editions.contains(&edition);
+        assert!(if shows { lists >= 20 } else { lists == 0 });
+    }
+}
+
+#[test]
+fn without_a_fault_the_page_is_the_same() {
+    must_show(Fault::None, &[]);
+}
+
+#[test]
+fn wrong_pages_are_caught() {
+    for fault in [
+        Fault::LeftAligned,
+        Fault::ZerosInFront,
+        Fault::AnyMarkFirm,
+        Fault::Transposed,
+        Fault::ByReceiver,
+        Fault::RecordingAsked,
+        Fault::EndsWithZero,
+    ] {
+        must_show(fault, &EDITIONS);
+    }
+}
+
+/// A recorded line without cars is there in edition 1 alone.
+#[test]
+fn lines_that_are_left_out_for_their_cars_are_caught() {
+    must_show(Fault::LeftOutByCars, &[1]);
+}
+
+/// Without gates the present total is the recorded one.
+#[test]
+fn the_present_total_on_the_page_is_caught() {
+    must_show(Fault::PresentTotal, &[3]);
 }

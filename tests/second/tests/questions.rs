@@ -3,6 +3,7 @@
 use second::edition::EDITIONS;
 use second::generate::with_edition;
 use second::journal;
+use second::page;
 use second::print::MOST_BYTES;
 use second::random::{drive, edition, stocks, Random};
 use second::recording;
@@ -37,20 +38,23 @@ fn all_answer_1(run: &Run) {
     assert_eq!((after.enter(0, 255), after.leave(0, 255)), (1, 1));
     assert!(after == *run);
     let mut lent = [7; 3_000];
-    assert_eq!(recording::write(run, &mut lent), (1, 0, 0));
-    assert_eq!(journal::write(run, &mut lent), (1, 0));
+    writers_answer_1(run, &mut lent);
     assert_eq!(lent, [7; 3_000]);
 }
 
-/// The state passes the short form, but recording and journal writing answer 1.
+fn writers_answer_1(run: &Run, lent: &mut [u8]) {
+    assert_eq!(recording::write(run, lent), (1, 0, 0));
+    assert_eq!(page::write(run, lent), (1, 0));
+    assert_eq!(journal::write(run, lent), (1, 0));
+}
+
+/// The state passes the short form, but recording, page and journal writing answer 1.
 fn only_the_fuller_form_fails(run: &Run) {
     assert!(run.sound());
     let mut lent = [7; 3_000];
-    assert_eq!(recording::write(run, &mut lent), (1, 0, 0));
-    assert_eq!(journal::write(run, &mut lent), (1, 0));
+    writers_answer_1(run, &mut lent);
     assert_eq!(lent, [7; 3_000]);
-    assert_eq!(recording::write(run, &mut []), (1, 0, 0));
-    assert_eq!(journal::write(run, &mut []), (1, 0));
+    writers_answer_1(run, &mut []);
 }
 
 #[test]
@@ -281,26 +285,31 @@ fn question_21_counts_the_cars_on_every_line() {
 #[test]
 fn writers_ask_for_enough_bytes_last() {
     let mut run = opened(1, &[1, 1]);
-    let mut lent = [9; 20];
+    let mut lent = [9; 60];
     assert_eq!(recording::write(&run, &mut []), (12, 0, 0));
+    assert_eq!(page::write(&run, &mut []), (12, 0));
     assert_eq!(journal::write(&run, &mut lent[..5]), (14, 0));
     run.hand_over(2, 1, 1);
     run.receipt(2, 1);
     run.start(1);
     assert_eq!(recording::write(&run, &mut []), (13, 0, 0));
+    assert_eq!(page::write(&run, &mut []), (13, 0));
     run.receipt(1, 2);
     assert_eq!(recording::write(&run, &mut lent[..9]), (14, 0, 0));
+    assert_eq!(page::write(&run, &mut lent[..50]), (14, 0));
     assert_eq!(journal::write(&run, &mut lent[..13]), (14, 0));
-    assert_eq!(lent, [9; 20]);
+    assert_eq!(lent, [9; 60]);
     assert_eq!(recording::write(&run, &mut lent), (0, 10, 2));
     assert_eq!(
         lent[..10],
         [0x24, 0, 0x80, 1, 0, 2, 0x80, 1, 0, 0],
         "both zones are firm"
     );
-    assert_eq!(lent[10..], [9; 10]);
+    assert_eq!(lent[10..], [9; 50]);
     assert_eq!(journal::write(&run, &mut lent), (0, 14));
-    assert_eq!(lent[14..], [9; 6]);
+    assert_eq!(lent[14..], [9; 46]);
+    assert_eq!(page::write(&run, &mut lent), (0, 51));
+    assert_eq!(lent[51..], [9; 9]);
 }
 
 #[test]
@@ -921,6 +930,7 @@ fn no_call_panics_on_random_states() {
         });
         let mut lent = [0; MOST_BYTES];
         let (refusal, ..) = recording::write(&run, &mut lent);
+        assert_eq!(page::write(&run, &mut lent).0, refusal);
         assert!(refusal == 1 || run.true_run());
     }
     assert!(accepted > 15_000);

@@ -20,7 +20,7 @@ type Outcome<T> = Result<T, String>;
 
 /// The calls with the numbers that they answer: the refusals, and behind them how many items remain after
 /// an accepted receipt and at the last one of an accepted reading, where more are met seldom.
-const CALLS: [(&str, &[u8]); 19] = [
+const CALLS: [(&str, &[u8]); 21] = [
     ("open", &[0, 2, 3, 4, 15]),
     ("send", &[0, 1, 5, 6, 7, 8]),
     ("receive", &[0, 1, 5, 6, 9, 10]),
@@ -28,9 +28,11 @@ const CALLS: [(&str, &[u8]); 19] = [
     ("enter", &[0, 1, 5, 6, 15, 21]),
     ("leave", &[0, 1, 5, 6, 7, 15]),
     ("record", &[0, 1, 12, 13, 14]),
+    ("page", &[0, 1, 12, 13, 14]),
     ("write", &[0, 1, 14]),
     ("read", &[0, 4, 15, 16, 17, 18, 19]),
     ("read-record", &[0, 4, 12, 13, 14, 15, 16, 17, 18, 19]),
+    ("read-page", &[0, 4, 12, 13, 14, 15, 16, 17, 18, 19]),
     ("zone-open", &[0, 2, 5, 15]),
     ("zone-send", &[0, 1, 5, 6, 7]),
     ("zone-receive", &[0, 1, 5, 6, 20]),
@@ -400,25 +402,32 @@ fn lents(random: &mut Random, needed: usize) -> [Lent; 4] {
     })
 }
 
-/// Compares a call that writes.
-fn write(
+/// A call that writes what it makes of a run or a journal: its name, by the proved code and by the
+/// peer.
+type Writer<T> = (
+    &'static str,
+    fn(&T, &mut [u8], &mut Numbers) -> u8,
+    fn(&T, &mut [u8]) -> Written,
+);
+
+/// Compares a call that writes; a peer that is not asked has refused with 1.
+fn write<T: ?Sized>(
     counts: &mut Counts,
     random: &mut Random,
-    name: &str,
+    (name, proved, peer): Writer<T>,
+    on: &T,
     asks_peer: bool,
-    proved: impl Fn(&mut [u8], &mut Numbers) -> u8,
-    peer: impl Fn(&mut [u8]) -> Written,
 ) -> Outcome<()> {
     let proved = |out: &mut [u8]| {
         let mut numbers = Numbers::default();
-        let refusal = proved(out, &mut numbers);
+        let refusal = proved(on, out, &mut numbers);
         numbers.with(refusal)
     };
     let needed = proved(&mut [0; RECORDING_BYTES]).written;
     for lent in lents(random, needed) {
-        let theirs = written(&lent, &proved);
+        let theirs = written(&lent, proved);
         let mine = if asks_peer {
-            written(&lent, &peer)
+            written(&lent, |out| peer(on, out))
         } else {
             let refused = Written {
                 refusal: 1,
@@ -436,13 +445,15 @@ fn write(
 }
 
 fn writers(counts: &mut Counts, random: &mut Random, run: &Run) -> Outcome<()> {
-    let asks_peer = !strays(run);
-    let theirs = |out: &mut [u8], numbers: &mut Numbers| proved::record(run, out, numbers);
-    let mine = |out: &mut [u8]| run.record(out);
-    write(counts, random, "record", asks_peer, theirs, mine)?;
-    let theirs = |out: &mut [u8], numbers: &mut Numbers| proved::write(run, out, numbers);
-    let mine = |out: &mut [u8]| run.write(out);
-    write(counts, random, "write", asks_peer, theirs, mine)
+    let writers: [Writer<Run>; 3] = [
+        ("record", proved::record, Run::record),
+        ("page", proved::page, Run::page),
+        ("write", proved::write, Run::write),
+    ];
+    for writer in writers {
+        write(counts, random, writer, run, !strays(run))?;
+    }
+    Ok(())
 }
 
 /// Random lists of calls from random openings.
@@ -716,9 +727,13 @@ fn journals(counts: &mut Counts, random: &mut Random, index: usize) -> Outcome<(
         if answer.refusal == 0 {
             counts.count("read leaves", answer.remaining)?;
         }
-        let theirs = |out: &mut [u8], n: &mut Numbers| proved::read_record(&bytes, out, n);
-        let mine = |out: &mut [u8]| site::read_record(&bytes, out);
-        write(counts, random, "read-record", true, theirs, mine)?;
+        let writers: [Writer<[u8]>; 2] = [
+            ("read-record", proved::read_record, site::read_record),
+            ("read-page", proved::read_page, site::read_page),
+        ];
+        for writer in writers {
+            write(counts, random, writer, &bytes[..], true)?;
+        }
         spoil(random, &mut bytes);
     }
     Ok(())

@@ -8,6 +8,7 @@
 
 #![forbid(unsafe_code)]
 
+mod page;
 mod replay;
 pub mod site;
 pub mod zone;

@@ -109,41 +109,28 @@ const READ: Call = Call {
     ],
 };
 
-const RECORD: Call = Call {
-    name: "record",
-    ops: [
-        |s| idle::bytes(&s.bytes, &mut s.out, &mut s.numbers),
-        |s| proved::record(&s.run, &mut s.out, &mut s.numbers),
-        |s| {
-            s.written = s.run.record(&mut s.out);
-            s.written.refusal
-        },
-    ],
-};
+/// A call that writes, on a scene's run or on its journal.
+macro_rules! writing {
+    ($name:literal, $on:ident, $proved:ident, $peer:path) => {
+        Call {
+            name: $name,
+            ops: [
+                |s| idle::bytes(&s.bytes, &mut s.out, &mut s.numbers),
+                |s| proved::$proved(&s.$on, &mut s.out, &mut s.numbers),
+                |s| {
+                    s.written = $peer(&s.$on, &mut s.out);
+                    s.written.refusal
+                },
+            ],
+        }
+    };
+}
 
-const READ_RECORD: Call = Call {
-    name: "read-record",
-    ops: [
-        |s| idle::bytes(&s.bytes, &mut s.out, &mut s.numbers),
-        |s| proved::read_record(&s.bytes, &mut s.out, &mut s.numbers),
-        |s| {
-            s.written = site::read_record(&s.bytes, &mut s.out);
-            s.written.refusal
-        },
-    ],
-};
-
-const WRITE: Call = Call {
-    name: "write",
-    ops: [
-        |s| idle::bytes(&s.bytes, &mut s.out, &mut s.numbers),
-        |s| proved::write(&s.run, &mut s.out, &mut s.numbers),
-        |s| {
-            s.written = s.run.write(&mut s.out);
-            s.written.refusal
-        },
-    ],
-};
+const RECORD: Call = writing!("record", run, record, Run::record);
+const READ_RECORD: Call = writing!("read-record", bytes, read_record, site::read_record);
+const PAGE: Call = writing!("page", run, page, Run::page);
+const READ_PAGE: Call = writing!("read-page", bytes, read_page, site::read_page);
+const WRITE: Call = writing!("write", run, write, Run::write);
 
 const OPEN: Call = Call {
     name: "open",
@@ -427,6 +414,7 @@ fn cases() -> Vec<Case> {
         cases.push(zone_case(call, scenes::checked(8)));
     }
     gates(&mut cases);
+    pages(&mut cases);
     for case in &mut cases {
         try_out(case);
     }
@@ -454,6 +442,16 @@ fn gates(cases: &mut Vec<Case>) {
     }
     for call in &GATE_STEPS {
         cases.push(zone_case(call, scenes::gated(8)));
+    }
+}
+
+/// The pages of case A and of the longest runs of 8 zones.
+fn pages(cases: &mut Vec<Case>) {
+    for call in [PAGE, READ_PAGE] {
+        cases.push(case(&call, "case A", scenes::case_a()));
+        cases.push(case(&call, "ring", scenes::ring(8, 1_000)));
+        cases.push(case(&call, "full", scenes::full(8, 1_000)));
+        cases.push(case(&call, "gates", scenes::gates(8, 1_000)));
     }
 }
 

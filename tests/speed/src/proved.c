@@ -59,6 +59,11 @@ uint8_t proved_record(const cut_run *run, uint8_t *out, size_t size, write_told 
     return tell(told, cut_record(run, out, size));
 }
 
+uint8_t proved_page(const cut_run *run, uint8_t *out, size_t size, write_told *told)
+{
+    return tell(told, cut_page(run, out, size));
+}
+
 uint8_t proved_write(const cut_run *run, uint8_t *out, size_t size, write_told *told)
 {
     return tell(told, cut_write(run, out, size));
@@ -67,6 +72,11 @@ uint8_t proved_write(const cut_run *run, uint8_t *out, size_t size, write_told *
 uint8_t proved_read_record(const uint8_t *bytes, size_t n, uint8_t *out, size_t size, write_told *told)
 {
     return tell(told, cut_journal_record(bytes, n, out, size));
+}
+
+uint8_t proved_read_page(const uint8_t *bytes, size_t n, uint8_t *out, size_t size, write_told *told)
+{
+    return tell(told, cut_journal_page(bytes, n, out, size));
 }
 
 uint8_t proved_read(const uint8_t *bytes, size_t n, cut_run *run, size_t *position, uint8_t *remaining)

@@ -34,6 +34,8 @@ mod raw {
             size: usize,
             numbers: *mut Numbers,
         ) -> u8;
+        pub fn proved_page(run: *const Run, out: *mut u8, size: usize, numbers: *mut Numbers)
+            -> u8;
         pub fn proved_write(
             run: *const Run,
             out: *mut u8,
@@ -41,6 +43,13 @@ mod raw {
             numbers: *mut Numbers,
         ) -> u8;
         pub fn proved_read_record(
+            bytes: *const u8,
+            n: usize,
+            out: *mut u8,
+            size: usize,
+            numbers: *mut Numbers,
+        ) -> u8;
+        pub fn proved_read_page(
             bytes: *const u8,
             n: usize,
             out: *mut u8,
@@ -199,6 +208,10 @@ pub fn record(run: &Run, out: &mut [u8], numbers: &mut Numbers) -> u8 {
     unsafe { raw::proved_record(run, out.as_mut_ptr(), out.len(), numbers) }
 }
 
+pub fn page(run: &Run, out: &mut [u8], numbers: &mut Numbers) -> u8 {
+    unsafe { raw::proved_page(run, out.as_mut_ptr(), out.len(), numbers) }
+}
+
 pub fn write(run: &Run, out: &mut [u8], numbers: &mut Numbers) -> u8 {
     unsafe { raw::proved_write(run, out.as_mut_ptr(), out.len(), numbers) }
 }
@@ -206,6 +219,11 @@ pub fn write(run: &Run, out: &mut [u8], numbers: &mut Numbers) -> u8 {
 pub fn read_record(journal: &[u8], out: &mut [u8], numbers: &mut Numbers) -> u8 {
     let (bytes, size) = (out.as_mut_ptr(), out.len());
     unsafe { raw::proved_read_record(journal.as_ptr(), journal.len(), bytes, size, numbers) }
+}
+
+pub fn read_page(journal: &[u8], out: &mut [u8], numbers: &mut Numbers) -> u8 {
+    let (bytes, size) = (out.as_mut_ptr(), out.len());
+    unsafe { raw::proved_read_page(journal.as_ptr(), journal.len(), bytes, size, numbers) }
 }
 
 pub fn read(run: &mut Run, bytes: &[u8]) -> Read {

@@ -1,5 +1,6 @@
 //! What is measured: runs with nearly empty and with full lines, made by the peer's calls.
 
+use second::generate::CASE_A;
 use second::random::Random;
 use speed::site::Run;
 
@@ -25,6 +26,13 @@ fn take(run: &mut Run, from: u8, to: u8) {
 
 fn room(run: &Run, records: usize) -> usize {
     records.saturating_sub(usize::from(run.records))
+}
+
+/// Case A of docs/RULES.md.
+pub fn case_a() -> Run {
+    let mut run = Run::REFUSED;
+    must(run.read(&CASE_A).refusal);
+    run
 }
 
 /// Receives the items of the first line that holds a request, up to the request; false without one.

@@ -1,5 +1,5 @@
-//! Writes journals behind their lengths to one file and the expected lines to another, and prints
-//! what stands out among them, by edition.
+//! Writes journals behind their lengths to one file and the expected texts to another, for each its
+//! line and then its page, and prints what stands out among them, by edition.
 
 use second::generate::{self, Traits};
 use second::print;
@@ -70,7 +70,7 @@ impl Tally {
 fn main() {
     let arguments: Vec<String> = std::env::args().collect();
     if arguments.len() < 3 {
-        eprintln!("usage: journals JOURNALS-FILE LINES-FILE [NUMBER]");
+        eprintln!("usage: journals JOURNALS-FILE TEXTS-FILE [NUMBER]");
         std::process::exit(2);
     }
     let number = arguments.get(3).map_or(generate::STORED, |text| {
@@ -78,18 +78,19 @@ fn main() {
     });
     let journals = generate::journals(SEED, number);
     let mut bytes = Vec::new();
-    let mut lines = String::new();
+    let mut texts = String::new();
     let mut tallies: BTreeMap<u32, Tally> = BTreeMap::new();
     for journal in &journals {
         let length = u16::try_from(journal.len()).expect("a length fits 16 bits");
         bytes.extend(length.to_be_bytes());
         bytes.extend(journal);
-        lines += &print::line(journal);
+        texts += &print::line(journal);
+        texts += &print::page(journal);
         let tally = tallies.entry(generate::edition_of(journal)).or_default();
         tally.add(&generate::traits(journal));
     }
     std::fs::write(&arguments[1], &bytes).expect("the journals can be written");
-    std::fs::write(&arguments[2], &lines).expect("the lines can be written");
+    std::fs::write(&arguments[2], &texts).expect("the texts can be written");
     let longest = journals.iter().map(Vec::len).max().unwrap_or(0);
     println!("journals {}, bytes {}", journals.len(), bytes.len());
     println!("bytes of the longest: {longest}");

@@ -1,16 +1,16 @@
-//! Gives the built program journals and other bytes on its standard input and compares what it
-//! prints with the line of this implementation. Then makes its reads and writes fail and compares
-//! what it says on standard error.
+//! Gives a built program journals and other bytes on its standard input and compares what it prints
+//! with the text of this implementation: that of a recording or of a page, as the program's name
+//! says. Then makes its reads and writes fail and compares what it says on standard error.
 
 use second::edition::EDITIONS;
 use second::generate;
+use second::limits::{doubled, gates, heaviest, longest, widest};
 use second::print;
-use second::random::{finish, Random};
-use second::site::{Run, MOST_RECORDS, PLACES};
 use std::fs::{File, OpenOptions};
 use std::io::Write;
 use std::os::fd::OwnedFd;
 use std::os::unix::net::UnixStream;
+use std::path::Path;
 use std::process::{Child, ChildStdin, Command, Output, Stdio};
 use std::thread::sleep;
 use std::time::Duration;
@@ -31,9 +31,37 @@ const PAUSE: Duration = Duration::from_micros(50);
 /// How many differences are shown.
 const SHOWN: u32 = 3;
 
-/// What the program says on standard error where a read or a write fails.
-const NOT_READ: &str = "cut_recorder: standard input could not be read\n";
-const NOT_WRITTEN: &str = "cut_recorder: the answer was not written whole\n";
+/// The text that a program prints for a journal.
+type Text = fn(&[u8]) -> String;
+
+/// The programs by the names of their files.
+const PROGRAMS: [(&str, Text); 2] = [("cut_recorder", print::line), ("cut_page", print::page)];
+
+/// A program that is tried.
+struct Program<'a> {
+    path: &'a str,
+    name: &'static str,
+    text: Text,
+}
+
+impl Program<'_> {
+    /// The program at a path; nothing where its file has another name than those above.
+    fn at(path: &str) -> Option<Program<'_>> {
+        let file = Path::new(path).file_name()?;
+        let (name, text) = PROGRAMS.into_iter().find(|(name, _)| file == *name)?;
+        Some(Program { path, name, text })
+    }
+
+    /// What it says on standard error where a read fails.
+    fn not_read(&self) -> String {
+        format!("{}: standard input could not be read\n", self.name)
+    }
+
+    /// The same where a write fails.
+    fn not_written(&self) -> String {
+        format!("{}: the answer was not written whole\n", self.name)
+    }
+}
 
 /// A run in which a read or a write failed: what the program wrote, and what it should have written
 /// on standard output and on standard error.
@@ -41,7 +69,7 @@ struct Failed {
     name: &'static str,
     output: Output,
     printed: String,
-    said: &'static str,
+    said: String,
 }
 
 /// An input with its name.
@@ -59,10 +87,10 @@ impl Input {
 
 fn main() {
     let arguments: Vec<String> = std::env::args().collect();
-    let [_, program, stored, scratch] = &arguments[..] else {
-        eprintln!("usage: program PROGRAM JOURNALS-FILE SCRATCH-FILE");
-        std::process::exit(2);
+    let [_, path, stored, scratch] = &arguments[..] else {
+        usage();
     };
+    let program = &Program::at(path).unwrap_or_else(|| usage());
     let stored = split(&std::fs::read(stored).expect("the stored journals can be read"));
     let made = made();
     let mut inputs: Vec<(Way, &Input)> = stored.iter().map(|input| (Way::Whole, input)).collect();
@@ -71,50 +99,56 @@ fn main() {
         let short = |input: &&Input| !matches!(way, Way::Slow) || input.bytes.len() < 4_096;
         inputs.extend(made.iter().filter(short).map(|input| (way, input)));
     }
-    let mut wrong = 0;
+    let (who, mut wrong) = (program.name, 0);
     for (way, input) in &inputs {
-        let expected = print::line(&input.bytes);
+        let expected = (program.text)(&input.bytes);
         let output = run(program, *way, &input.bytes, scratch);
         let printed = String::from_utf8_lossy(&output.stdout);
         if !output.status.success() || !output.stderr.is_empty() || printed != expected {
             wrong += 1;
             if wrong <= SHOWN {
                 let (name, bytes) = (&input.name, input.bytes.len());
-                println!("program: {name}, {bytes} bytes, {way:?}: {}", output.status);
+                println!("{who}: {name}, {bytes} bytes, {way:?}: {}", output.status);
                 println!("  printed {:?}", cut(&printed));
                 println!("  expected {:?}", cut(&expected));
             }
         }
     }
-    println!("program: {} inputs compared, {wrong} differ", inputs.len());
+    println!("{who}: {} inputs compared, {wrong} differ", inputs.len());
     wrong += untold(program, scratch);
     std::process::exit(i32::from(wrong != 0));
 }
 
+fn usage() -> ! {
+    let names = PROGRAMS.map(|(name, _)| name).join(" or ");
+    eprintln!("usage: program PROGRAM JOURNALS-FILE SCRATCH-FILE, where PROGRAM's file is {names}");
+    std::process::exit(2);
+}
+
 /// Makes reads and writes of the program fail; how many of these it does not tell as expected.
-fn untold(program: &str, scratch: &str) -> u32 {
+fn untold(program: &Program, scratch: &str) -> u32 {
     let mut failed = unread(program, scratch);
     failed.extend(unwritten(program, scratch));
-    let mut wrong = 0;
+    let (who, mut wrong) = (program.name, 0);
     for run in &failed {
         let (name, status) = (run.name, run.output.status);
         let printed = String::from_utf8_lossy(&run.output.stdout);
         let said = String::from_utf8_lossy(&run.output.stderr);
         if !status.success() || printed != run.printed || said != run.said {
             wrong += 1;
-            println!("program: {name}: {status}");
+            println!("{who}: {name}: {status}");
             println!("  printed {:?}, said {said:?}", cut(&printed));
             println!("  expected {:?}, {:?}", cut(&run.printed), run.said);
         }
     }
     let made = failed.len();
-    println!("program: {made} failures made, {wrong} not told as expected");
+    println!("{who}: {made} failures made, {wrong} not told as expected");
     wrong
 }
 
-/// The first part of a line.
-fn cut(line: &str) -> String {
-    line.chars().take(80).collect()
+/// The first part of a text.
+fn cut(text: &str) -> String {
+    text.chars().take(80).collect()
 }
 
 /// The journals of a file that has each behind its length in 16 bits, high byte first.
@@ -134,7 +168,7 @@ fn split(mut bytes: &[u8]) -> Vec<Input> {
 }
 
 /// The inputs at the edges: nothing, the shortest, the longest journal, too long ones, and those
-/// whose printed lines are long.
+/// whose printed texts are long or have high numbers.
 fn made() -> Vec<Input> {
     let longest = generate::bytes_of(&longest());
     assert_eq!(longest.len(), 2_018);
@@ -148,6 +182,7 @@ fn made() -> Vec<Input> {
         (&widest_3, 881 - checks),
     ] {
         assert_eq!(print::line(widest).len(), 3 * (2 + 4 * 8 + 2 * items));
+        assert_eq!(print::page(widest).len(), 17 * (8 + 49 + 1));
     }
     let followed = |length: usize| {
         let mut bytes = longest.clone();
@@ -169,87 +204,19 @@ fn made() -> Vec<Input> {
         Input::new("many items and line checks in edition 3", widest_3),
         Input::new("the longest journal of gates", gates),
         Input::new("a total above 65,535", generate::GATED[0].to_vec()),
+        Input::new("a total of six digits", generate::bytes_of(&doubled())),
+        Input::new("a line above 65,535", generate::bytes_of(&heaviest())),
     ]
 }
 
-/// Traffic round a ring of 8 zones up to a number of records.
-fn ring(run: &mut Run, records: usize) {
-    let mut from = 1;
-    while run.records.len() + 1 < records {
-        let to = from % 8 + 1;
-        assert_eq!(run.hand_over(from, to, 1), 0);
-        assert_eq!(run.receipt(from, to), 0);
-        from = to;
-    }
-    if run.records.len() < records {
-        assert_eq!(run.hand_over(1, 2, 1), 0);
-    }
-}
-
-/// A run of 8 zones and 1,000 accepted records with a complete recording.
-fn longest() -> Run {
-    let (_, mut run) = Run::open(1, 8, &[1_000; 8]);
-    ring(&mut run, 500);
-    assert_eq!(run.start(1), 0);
-    finish(&mut Random::new(1), &mut run);
-    ring(&mut run, MOST_RECORDS);
-    run
-}
-
-/// A run of 8 zones and 1,000 accepted records, all but one of them gate calls: zone 8 has 999 own
-/// events, which its start shows.
-fn gates() -> Run {
-    let (_, mut run) = Run::open(3, 8, &[1_000; 8]);
-    while run.records.len() + 1 < MOST_RECORDS {
-        let cars = (run.records.len() % 256) as u8;
-        let refusal = match run.records.len() % 3 {
-            0 => run.leave(8, cars),
-            _ => run.enter(8, cars / 2),
-        };
-        assert_eq!(refusal, 0);
-    }
-    assert_eq!(run.start(8), 0);
-    assert_eq!(run.zones[7].events, 999);
-    run
-}
-
-/// A run of 8 zones and 1,000 accepted records whose recording has 881 items: zone 1 has heard all
-/// others and starts; these fill their lines before they take its requests, and zone 1 takes some
-/// items after its mark. From edition 2 on the 49 of 0 cars are line checks and not shown.
-fn widest(edition: u32) -> Run {
-    let (_, mut run) = Run::open(edition, 8, &[8_000; 8]);
-    for zone in 2..=8 {
-        assert_eq!(run.hand_over(zone, 1, 1), 0);
-        assert_eq!(run.receipt(zone, 1), 0);
-    }
-    assert_eq!(run.start(1), 0);
-    for from in 2..=8 {
-        for to in (1..=8).filter(|&to| to != from) {
-            for cars in 0..PLACES as u8 {
-                assert_eq!(run.hand_over(from, to, cars), 0);
-            }
-        }
-    }
-    for more in 0..97 {
-        let from = 2 + more % 7;
-        assert_eq!(run.receipt(from, 1), 0);
-        assert_eq!(run.hand_over(from, 1, 255), 0);
-    }
-    for to in 2..=8 {
-        assert_eq!(run.receipt(1, to), 0);
-    }
-    assert_eq!(run.records.len(), MOST_RECORDS);
-    run
-}
-
-fn started(program: &str, input: Stdio) -> Child {
-    begun(&mut Command::new(program), input, Stdio::piped())
+fn started(program: &Program, input: Stdio) -> Child {
+    begun(&mut Command::new(program.path), input, Stdio::piped())
 }
 
 /// Starts the program by a shell, which has prepared what it inherits.
-fn prepared(script: &str, program: &str, input: Stdio, output: Stdio) -> Child {
+fn prepared(script: &str, program: &Program, input: Stdio, output: Stdio) -> Child {
     begun(
-        Command::new("sh").args(["-c", script, program]),
+        Command::new("sh").args(["-c", script, program.path]),
         input,
         output,
     )
@@ -269,7 +236,7 @@ fn ended(child: Child) -> Output {
 }
 
 /// Runs the program on these bytes.
-fn run(program: &str, way: Way, bytes: &[u8], scratch: &str) -> Output {
+fn run(program: &Program, way: Way, bytes: &[u8], scratch: &str) -> Output {
     if let Way::File = way {
         std::fs::write(scratch, bytes).expect("the scratch file can be written");
         let file = File::open(scratch).expect("the scratch file can be read");
@@ -299,7 +266,7 @@ fn write(mut pipe: ChildStdin, way: Way, bytes: &[u8]) {
 }
 
 /// Standard inputs that cannot be read, or not to their end: nothing is to be printed.
-fn unread(program: &str, scratch: &str) -> Vec<Failed> {
+fn unread(program: &Program, scratch: &str) -> Vec<Failed> {
     let closed = prepared("exec \"$0\" <&-", program, Stdio::null(), Stdio::piped());
     let directory = File::open("/").expect("the root directory can be opened");
     let written = File::create(scratch).expect("the scratch file can be made");
@@ -323,7 +290,7 @@ fn unread(program: &str, scratch: &str) -> Vec<Failed> {
         name,
         output: ended(child),
         printed: String::new(),
-        said: NOT_READ,
+        said: program.not_read(),
     })
     .collect()
 }
@@ -338,8 +305,8 @@ fn broken(bytes: &[u8]) -> Stdio {
     OwnedFd::from(near).into()
 }
 
-/// Standard outputs that take nothing, or a part of the line.
-fn unwritten(program: &str, scratch: &str) -> Vec<Failed> {
+/// Standard outputs that take nothing, or a part of the text.
+fn unwritten(program: &Program, scratch: &str) -> Vec<Failed> {
     let journal = generate::bytes_of(&widest(1));
     let given = |script: &str, output: Stdio| {
         let mut child = prepared(script, program, Stdio::piped(), output);
@@ -357,21 +324,22 @@ fn unwritten(program: &str, scratch: &str) -> Vec<Failed> {
     // A process that does not ignore the signal of a pipe without a reader, or of a file at its
     // limit, is ended by it.
     let unread = given("trap '' PIPE; exec \"$0\"", Stdio::piped());
-    let mut part = given("trap '' XFSZ; ulimit -f 4; exec \"$0\"", short.into());
+    // The limit is 512 bytes, which is a part of a page too.
+    let mut part = given("trap '' XFSZ; ulimit -f 1; exec \"$0\"", short.into());
     part.stdout = std::fs::read(scratch).expect("the scratch file can be read");
-    let line = print::line(&journal);
+    let text = (program.text)(&journal);
     let length = part.stdout.len();
-    assert!(0 < length && length < line.len(), "a part is written");
+    assert!(0 < length && length < text.len(), "a part is written");
     let told = |name, output, printed: &str| Failed {
         name,
         output,
         printed: printed.to_string(),
-        said: NOT_WRITTEN,
+        said: program.not_written(),
     };
     vec![
         told("a closed output", closed, ""),
         told("a full device as the output", full, ""),
         told("a pipe without a reader as the output", unread, ""),
-        told("an output that takes a part", part, &line[..length]),
+        told("an output that takes a part", part, &text[..length]),
     ]
 }

@@ -38,6 +38,7 @@ fn on_run(name: &str, run: PlainRun) -> Option<Once> {
         "enter" => changed(run, |copy| ffi::cut_site_enter(copy, 1, 3).refusal),
         "leave" => changed(run, |copy| ffi::cut_site_leave(copy, 1, 3).refusal),
         "record" => writing(move |lent| ffi::cut_site_record(black_box(&run), lent).refusal),
+        "page" => writing(move |lent| ffi::cut_site_page(black_box(&run), lent).refusal),
         "write" => writing(move |lent| ffi::cut_journal_write(black_box(&run), lent).refusal),
         _ => return None,
     })
@@ -57,6 +58,7 @@ fn on_bytes(name: &str, bytes: Vec<u8>) -> Option<Once> {
     Some(match name {
         "read" => Box::new(move || u32::from(black_box(&ffi::cut_journal_read(&bytes)).refusal)),
         "read-record" => writing(move |lent| ffi::cut_journal_record(&bytes, lent).refusal),
+        "read-page" => writing(move |lent| ffi::cut_journal_page(&bytes, lent).refusal),
         _ => return None,
     })
 }

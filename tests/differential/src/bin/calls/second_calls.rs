@@ -4,7 +4,7 @@ use crate::Once;
 use second::print::MOST_BYTES;
 use second::site::{Call, Direction, Run};
 use second::zone::{Answer, Zone};
-use second::{journal, recording};
+use second::{journal, page, recording};
 use std::hint::black_box;
 use std::rc::Rc;
 
@@ -45,6 +45,7 @@ fn on_run(name: &str, run: Rc<Run>) -> Option<Once> {
         "enter" => changed(run, Some(gate(Direction::In))),
         "leave" => changed(run, Some(gate(Direction::Out))),
         "record" => writing(move |lent| recording::write(black_box(&run), lent).0),
+        "page" => writing(move |lent| page::write(black_box(&run), lent).0),
         "write" => writing(move |lent| journal::write(black_box(&run), lent).0),
         _ => return None,
     })
@@ -60,14 +61,20 @@ fn writing(write: impl Fn(&mut [u8]) -> u32 + 'static) -> Once {
     })
 }
 
+/// What a writer answers on a journal, or the refusal of reading.
+fn read(bytes: &[u8], write: impl FnOnce(&Run) -> u32) -> u32 {
+    let reading = journal::read(bytes);
+    match reading.refusal {
+        0 => write(&reading.run),
+        refusal => refusal,
+    }
+}
+
 fn on_bytes(name: &str, bytes: Vec<u8>) -> Option<Once> {
-    let recorded = |bytes: &[u8], lent: &mut [u8]| match journal::read(bytes) {
-        reading if reading.refusal == 0 => recording::write(&reading.run, lent).0,
-        reading => reading.refusal,
-    };
     Some(match name {
         "read" => Box::new(move || black_box(&journal::read(&bytes)).refusal),
-        "read-record" => writing(move |lent| recorded(&bytes, lent)),
+        "read-record" => writing(move |lent| read(&bytes, |run| recording::write(run, lent).0)),
+        "read-page" => writing(move |lent| read(&bytes, |run| page::write(run, lent).0)),
         _ => return None,
     })
 }
