@@ -99,7 +99,7 @@ for from in lines.c automatic.c; do
     ./alone || fail "The opening in docs/OPENING.md for a fitter is refused."
 done
 
-# What that page says of the output of c/fitter.c.
+# What that document says of the output of c/fitter.c.
 sed -n '/^## For a fitter/,$s/^    \([a-z]*: .*\)/\1/p' "$root/docs/OPENING.md" >said
 $c "$root/c/fitter.c" "$libdir/libcut.a" -o alone
 ./alone | cmp - said || fail "docs/OPENING.md does not say what c/fitter.c prints."

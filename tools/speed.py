@@ -14,11 +14,13 @@ import tempfile
 SPEED = "tests/speed/target/release/speed"
 ROUNDS = 51
 RUNS = ["read", "record", "read-record", "write"]
+# What works on a whole run too, but is measured on the longest runs alone.
+PAGES = ["page", "read-page"]
 CALLS = ["send", "receive", "start", "enter", "leave"]
 # The lines of whole runs; the last are of edition 3, with gates.
 LINES = [("ring", ("2", "4", "8")), ("full", ("2", "4", "8")), ("gates", ("2", "8"))]
 PARTS = [("read", "ring", "8", "1000"), ("record", "ring", "2", "10"), ("record", "ring", "8", "1000"), ("record", "full", "8", "1000"),
-         ("read-record", "full", "8", "1000"), ("write", "ring", "8", "1000"), ("send", "empty", "8", "99"), ("send", "full", "8", "854"),
+         ("read-record", "full", "8", "1000"), ("page", "full", "8", "1000"), ("write", "ring", "8", "1000"), ("send", "empty", "8", "99"), ("send", "full", "8", "854"),
          ("read", "gates", "8", "1000"), ("record", "gates", "8", "1000"), ("enter", "empty", "8", "99"), ("leave", "empty", "8", "99")]
 # Nanoseconds below which the time of a call cannot be told from that of measuring, so that a ratio would mean nothing.
 LEAST_NS = 5
@@ -209,12 +211,12 @@ def main():
     print("Geometric means of the ratios:")
     figures.means()
     print("\nWhole runs:")
-    figures.table(lambda label: label[0] in RUNS)
+    figures.table(lambda label: label[0] in RUNS + PAGES)
     figures.growth()
     print("\nWhere the proved code's instructions go:")
     figures.parts()
     print("\nSingle calls of the site:")
-    figures.table(lambda label: label[0] not in RUNS and not label[0].startswith("zone"))
+    figures.table(lambda label: label[0] not in RUNS + PAGES and not label[0].startswith("zone"))
     print("\nSteps of the zone part:")
     figures.table(lambda label: label[0].startswith("zone"))
 

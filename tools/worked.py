@@ -3,8 +3,9 @@
 
 It is an error if
 - the program's line for a journal there is not the recording or the refusal that stands beside it (a position is not printed, so not held);
+- the page of a journal there is not the one that stands below it;
 - the bits of a word there are not those of its bytes;
-- fewer than 4 journals with a recording and 15 with a refusal are found, so that a table in another form is not passed over.
+- fewer than 4 journals with a recording and 15 with a refusal, or fewer than 4 pages, are found, so that a table in another form is not passed over.
 """
 import pathlib
 import re
@@ -26,8 +27,14 @@ def journals(text):
         yield journal, f"refused {number[1]}" if number else answer.strip("`")
 
 
-def printed(journal):
-    run = subprocess.run([SECOND], input=bytes.fromhex(journal), stdout=subprocess.PIPE, check=True)
+def pages(text):
+    """Each journal with a worked page, in hexadecimal, and the page."""
+    for journal, page in re.findall(rf"^Journal {BYTES}[^\n]*:\n\n((?:    [^\n]*\n)+)", text, re.M):
+        yield journal, page.replace("    ", "", 1).replace("\n    ", "\n").rstrip("\n")
+
+
+def printed(journal, *words):
+    run = subprocess.run([SECOND, *words], input=bytes.fromhex(journal), stdout=subprocess.PIPE, check=True)
     return run.stdout.decode().rstrip("\n")
 
 
@@ -39,7 +46,13 @@ def wrong():
         yield f"docs/RULES.md: only {len(found)} worked journals were found, {refused} of them refused"
     for journal, line in found:
         if printed(journal) != line:
-            yield f"docs/RULES.md: the second implementation prints {printed(journal)!r} for {journal}, and the page has {line!r}"
+            yield f"docs/RULES.md: the second implementation prints {printed(journal)!r} for {journal}, and the document has {line!r}"
+    drawn = list(pages(text))
+    if len(drawn) < 4:
+        yield f"docs/RULES.md: only {len(drawn)} worked pages were found"
+    for journal, page in drawn:
+        if printed(journal, "page") != page:
+            yield f"docs/RULES.md: the second implementation draws {printed(journal, 'page')!r} for {journal}, and the document has {page!r}"
     for word, bits in re.findall(rf"^\| \d+ \| {BYTES} \| ([01 ]+) \|", text, re.M):
         if bits.replace(" ", "") != f"{int(word.replace(' ', ''), 16):016b}":
             yield f"docs/RULES.md: {bits} are not the bits of {word}"
