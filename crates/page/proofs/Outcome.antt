@@ -11,18 +11,18 @@ use Rattle.rules.specs.Questions.{Question, Among}
 use Rattle.rules.proofs.AskLaws.{AllYes, numbers, not-among, ask-cases}
 use Rattle.run.specs.declared.Run.{Run}
 use Rattle.journal.specs.Reading.{readCall}
-use Rattle.journal.specs.Writing.{refusedOutput, writtenOutput}
+use Rattle.journal.specs.Writing.{refusedOutput, writtenOutput, PositionedOutput, positioned}
 use Rattle.page.specs.Call.{pageOf, pageQuestions, pageCall}
-use Rattle.page.specs.Journal.{PageOutput, positioned, pageJournal}
+use Rattle.page.specs.Journal.{pageJournal}
 
 -- The answer is a refusal: beside it nothing is written.
-pub record Refused (lent : List ℕ) (position : ℕ) (o : PageOutput) : Type 0 where
+pub record Refused (lent : List ℕ) (position : ℕ) (o : PositionedOutput) : Type 0 where
   pub number : ℕ
   pub some : number ≢ 0
   pub output : o ≡ positioned position (refusedOutput lent number)
 
 -- The page of a run is written, and has room.
-pub record Drawn (lent : List ℕ) (r : Run) (o : PageOutput) : Type 0 where
+pub record Drawn (lent : List ℕ) (r : Run) (o : PositionedOutput) : Type 0 where
   pub room : length (pageOf r) ≤ length lent
   pub output : o ≡ positioned 0 (writtenOutput lent (pageOf r))
 
@@ -46,7 +46,7 @@ journal-outcome journal lent = go (eqb (readCall journal .refusal) 0) refl (run-
     read : Run
     read = readCall journal .run
 
-    out : Bool → PageOutput
+    out : Bool → PositionedOutput
     out b = cond b (positioned 0 (pageCall read lent)) (positioned (readCall journal .position) (refusedOutput lent (readCall journal .refusal)))
 
     go : (b : Bool) → eqb (readCall journal .refusal) 0 ≡ b

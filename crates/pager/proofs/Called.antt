@@ -14,7 +14,7 @@ use Rattle.run.specs.Claims.{WholeRun}
 use Rattle.run.specs.State.{termsOf, countOf}
 use Rattle.run.specs.declared.Run.{Run}
 use Rattle.journal.specs.Reading.{readCall}
-use Rattle.journal.specs.Writing.{isReplayed, Output, refusedOutput, writtenOutput}
+use Rattle.journal.specs.Writing.{isReplayed, Output, refusedOutput, writtenOutput, PositionedOutput, positioned}
 use Rattle.journal.specs.declared.Written.{Written}
 use Rattle.recording.specs.Call.{snapshotOf, recordedTotal, recordCall}
 use Rattle.recording.specs.Journal.{JournalOutput, outputOf, unreadOutput, recordJournal}
@@ -27,7 +27,7 @@ use Rattle.recording.proofs.Read.{read-whole}
 use Rattle.recording.proofs.Shows.{snapshot-fits, zones-shown, number-shown, items-shown}
 use Rattle.recording.proofs.Sized.{recording-length}
 use Rattle.page.specs.Call.{pageOf, pageCall}
-use Rattle.page.specs.Journal.{PageOutput, positioned, pageJournal}
+use Rattle.page.specs.Journal.{pageJournal}
 use Rattle.page.proofs.Whole.{page-shows}
 use Rattle.pager.specs.InnerLines.{Holds, pageIn, sizedPage}
 
@@ -104,7 +104,7 @@ module _ (journal own lent : List ℕ) where
   abbrev recordedIf : Bool → JournalOutput
   recordedIf b = cond b (outputOf (recordCall read own)) (unreadOutput own (readCall journal .refusal) (readCall journal .position))
 
-  abbrev pageIf : Bool → PageOutput
+  abbrev pageIf : Bool → PositionedOutput
   pageIf b =
       cond b (positioned 0 (pageCall read lent)) (positioned (readCall journal .position) (refusedOutput lent (readCall journal .refusal)))
 
@@ -146,6 +146,6 @@ module _ (journal own lent : List ℕ) where
           × (after ≡ pageJournal journal lent .bytes)
       journal-page p after g h =
           let q = ap₂ (λ (b : List ℕ) (d : JournalRecorded). positioned 0 (sizedPage lent (pageIn b (d .total)))) f e ∙ read-recorded .1 in (
-            ap (λ (w : Written). record { refusal = w .refusal; position = 0; written = w .written }) g ∙ ap (λ (o : PageOutput). o .answer) q,
-            h ∙ ap (λ (o : PageOutput). o .bytes) q,
+            ap (λ (w : Written). record { refusal = w .refusal; position = 0; written = w .written }) g ∙ ap (λ (o : PositionedOutput). o .answer) q,
+            h ∙ ap (λ (o : PositionedOutput). o .bytes) q,
           )

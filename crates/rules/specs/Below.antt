@@ -1,4 +1,4 @@
--- Tests, sums and lists over the numbers below n.
+-- Tests, sums and lists over the numbers below n, and over lists.
 use mathlib.Core.Bool.{Bool, true, false, _&&_, _||_}
 use mathlib.Core.List.{List, [], _∷_, _++_}
 use Prim.Native.Nat.{ℕ, zero, suc, _+_}
@@ -24,3 +24,8 @@ listBelow (suc n) f = listBelow n f ++ (f n ∷ [])
 abbrev pub sum : List ℕ → ℕ
 sum [] = 0
 sum (x ∷ xs) = x + sum xs
+
+-- Does every element of a list pass the test?
+abbrev pub every : {A : Type 0} → (A → Bool) → List A → Bool
+every test [] = true
+every test (x ∷ xs) = test x && every test xs

@@ -248,7 +248,7 @@ module _ (r : Run) (w : WholeRun r) (s : SoundRun r) where
       go false h = refl
 
   -- The first item of a channel that is not empty.
-  first-item : (a b : ℕ) → Pair (countOf (r .head)) a b → 0 < lenOf (r .channels) (channelIndex a b)
+  pub first-item : (a b : ℕ) → Pair (countOf (r .head)) a b → 0 < lenOf (r .channels) (channelIndex a b)
       → siteOf r .channel a b ≡ itemOf (firstOf (r .channels) (channelIndex a b)) ∷ tail (itemsOn (r .channels) (channelIndex a b))
   first-item a b p h =
       channel-on r a b (on-site (countOf (r .head)) a b (s .most) (p .from) (p .to) (p .apart))

@@ -1,11 +1,8 @@
 -- What one word more adds to the comparison of a channel; that empty channels are the same, and nothing is compared at an index that the
 -- site has no channel at.
-use mathlib.Core.Path.{_≡_, refl, sym, _∙_, ap}
-use mathlib.Core.Bool.{Bool, true, false, _&&_, _||_, not, and-true, and-assoc}
-use mathlib.Core.List.{List, [], _∷_}
-use Prim.Native.Nat.{ℕ, zero, suc, _+_, _*_, _<_, _≤_, min}
-use native.Mathlib.Numerals.{add-one}
-use native.Mathlib.Nat.{not-suc-le-zero, le-of-suc-le-suc}
+use mathlib.Core.Path.{_≡_, refl, _∙_}
+use mathlib.Core.Bool.{Bool, true, false, _&&_, _||_, not}
+use Prim.Native.Nat.{ℕ, _+_, _*_, _<_, _≤_, min}
 use native.Mathlib.Omega.{arith}
 use borrow.Author.Tests.{eq-eqb}
 use lib.Dec.{eqb}
@@ -15,17 +12,10 @@ use Rattle.channel.specs.Channels.{isChannel, channelIndex, wordsOn, lenOf}
 use Rattle.channel.specs.declared.Channels.{Channels}
 use Rattle.channel.proofs.Indices.{word-at, words-length, all-words, no-channel, no-channel-to}
 use Rattle.run.proofs.BelowLaws.{all-end}
-use Rattle.journal.specs.Writing.{sameWords, sameChannel}
+use Rattle.words.specs.Bytes.{sameWords}
+use Rattle.words.proofs.SameLaws.{same-next}
+use Rattle.journal.specs.Writing.{sameChannel}
 use Rattle.same.specs.InnerAt.{sameAt, sameFrom}
-
-words-more : (xs ys : List ℕ) (p : ℕ) → p < length xs → p < length ys
-    → sameWords (take (suc p) xs) (take (suc p) ys) ≡ sameWords (take p xs) (take p ys) && eqb (getD xs p 0) (getD ys p 0)
-words-more [] ys p h k = absurd (not-suc-le-zero h)
-words-more (x ∷ xs) [] p h k = absurd (not-suc-le-zero k)
-words-more (x ∷ xs) (y ∷ ys) zero h k = and-true _
-words-more (x ∷ xs) (y ∷ ys) (suc p) h k =
-    ap (λ (b : Bool). eqb x y && b) (words-more xs ys p (le-of-suc-le-suc h) (le-of-suc-le-suc k))
-    ∙ sym (and-assoc (eqb x y) (sameWords (take p xs) (take p ys)) (eqb (getD xs p 0) (getD ys p 0)))
 
 -- Two lists of channels of 1,024 words each, with the same length at k.
 module _ (l m : Channels) (k : ℕ) (h : k < 64) (el : length (l .items) ≡ 1024) (em : length (m .items) ≡ 1024) (e : lenOf l k ≡ lenOf m k) where
@@ -35,7 +25,7 @@ module _ (l m : Channels) (k : ℕ) (h : k < 64) (el : length (l .items) ≡ 102
   one-more p s b f =
       let x = word-at l k p b in
       let y = word-at m k p (omega arith) in
-      rw (add-one p, words-more (wordsOn l k) (wordsOn m k) p (omega (arith, words-length l k h el)) (omega (arith, words-length m k h em)), x, y, f)
+      rw (same-next (wordsOn l k) (wordsOn m k) p (omega (arith, words-length l k h el)) (omega (arith, words-length m k h em)), x, y, f)
 
   pub all-same : (p : ℕ) (s : Bool) → p ≡ min (lenOf l k) 16 → s ≡ sameWords (take p (wordsOn l k)) (take p (wordsOn m k)) → s ≡ sameChannel l m k
   unfolding sameChannel

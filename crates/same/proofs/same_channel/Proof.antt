@@ -6,7 +6,8 @@ use borrow.Author.Needs.{needs}
 use borrow.Author.Tests.{ne-eqb}
 use lib.ListN.{take}
 use Rattle.channel.specs.Channels.{channelsAs, wordsOn}
-use Rattle.journal.specs.Writing.{sameWords, sameChannel}
+use Rattle.words.specs.Bytes.{sameWords}
+use Rattle.journal.specs.Writing.{sameChannel}
 use Rattle.same.proofs.Laws.{one-more, all-same}
 use Rattle.same.proofs.same_channel.Statement.{statement}
 use Rattle.same.proofs.same_channel.Tie as tie
