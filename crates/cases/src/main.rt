@@ -1,8 +1,10 @@
-// Reads journals, each behind its length in 16 bits, high byte first, and prints the texts of each, that of its recording and that of its page:
-// the stored journals and texts are those of the second implementation.
+// Reads journals, each behind its length in 16 bits, high byte first, and prints the texts of each, that of its recording, that of its page, and
+// for each conversion the bytes that it gives or its refusal: the stored journals and texts are those of the second implementation.
 ghost use Prim.Native.Nat.{_≤_};
 ghost use mathlib.Core.Path.{_≡_};
 ghost use lib.ListN.{length};
+use conversion::Conversion;
+use journal::JOURNAL_BYTES;
 use libc::STDIN_FILENO;
 use libc::STDOUT_FILENO;
 use page::PAGE_BYTES;
@@ -37,6 +39,8 @@ fn one() -> bool {
     }
     print(&space[0..n]);
     print_page(&space[0..n]);
+    print_converted(Conversion::Upgrade, &space[0..n]);
+    print_converted(Conversion::Downgrade, &space[0..n]);
     true
 }
 
@@ -51,6 +55,21 @@ fn print(journal: &[u8]) {
 fn print_page(journal: &[u8]) {
     let mut out = [0u8; PAGE_BYTES];
     let m = report::page_text(journal, &mut out);
+    io::write_all(STDOUT_FILENO, &out[..m]);
+}
+
+// The line of a journal's conversion.
+fn print_converted(conversion: Conversion, journal: &[u8]) {
+    let mut bytes = [0u8; JOURNAL_BYTES];
+    let mut out = [0u8; TEXT_BYTES];
+    let done = converter::convert(conversion, journal, &mut bytes);
+    if done.refusal != 0 {
+        let m = text::refused(done.refusal, &mut out);
+        io::write_all(STDOUT_FILENO, &out[..m]);
+        return;
+    }
+    let n = done.written;
+    let m = text::shown(&bytes[..n], &mut out);
     io::write_all(STDOUT_FILENO, &out[..m]);
 }
 

@@ -1,5 +1,5 @@
-// Standard input and output of the programs: the input is read until it ends or the space is full, and an answer written whole. Where a read or a write fails it is said on
-// standard error, since a Rattle program has no exit status to tell it by.
+// Argument, standard input and output of the programs: the input is read until it ends or the space is full, and an answer written whole. Where a
+// read or a write fails it is said on standard error, since a Rattle program has no exit status to tell it by.
 ghost use mathlib.Core.Path.{_≡_};
 ghost use Prim.Native.Nat.{ℕ, _+_, _≤_};
 ghost use lib.ListN.{length, take};
@@ -75,4 +75,20 @@ pub fn write(program: &[u8], answer: &[u8]) {
         io::write_all(STDERR_FILENO, program);
         io::write_all(STDERR_FILENO, b": the answer was not written whole\n");
     }
+}
+
+// Writes a text to standard error: a refusal that must not stand in the answer, or how a program is called.
+pub fn say(text: &[u8]) {
+    io::write_all(STDERR_FILENO, text);
+}
+
+// The program's one argument, at the front of the space: its length, or 0 where there is none, more than one, or one that is longer than the
+// space. Which bytes it has no contract can say.
+pub fn argument(space: &mut [u8]) -> usize
+    ensures { λ n. ⌜ n ≤ length (now (space .exit)) ⌝ }
+{
+    if os::arg_count() != 2 {
+        return 0;
+    }
+    os::arg(1, space)
 }

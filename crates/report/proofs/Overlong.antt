@@ -1,11 +1,11 @@
--- The text for a journal is told by its first 2,019 bytes: the bytes of input that the program reads are enough.
+-- The text for a journal, and its conversion, are told by its first 2,019 bytes: the bytes of input that the programs read are enough.
 use mathlib.Core.Path.{_≡_, refl, sym, _∙_, ap, ap₂}
 use mathlib.Core.Bool.{Bool, true, false, cond, _&&_}
 use mathlib.Core.List.{List}
 use Prim.Native.Nat.{ℕ, _+_, _*_, _<_, _≤_}
 use native.Mathlib.Omega.{arith}
-use borrow.Author.Tests.{leb-true, leb-false, le-leb, ne-eqb}
-use lib.Dec.{leb}
+use borrow.Author.Tests.{leb-true, leb-false, le-leb, ne-eqb, eqb-true}
+use lib.Dec.{leb, eqb}
 use lib.ListN.{length, take, replicate}
 use lib.Seq.{length-take-le, take-all, getD-take}
 use Rattle.rules.specs.Edition.{isEdition}
@@ -14,7 +14,10 @@ use Rattle.words.specs.Bytes.{wordAt}
 use Rattle.words.specs.Header.{editionIn, zonesIn, numberIn}
 use Rattle.journal.specs.Reading.{unread, zonesOf, recordsOf, isHeader, readCall}
 use Rattle.journal.specs.declared.Reading.{Reading}
+use Rattle.journal.proofs.Front.{read-begins}
 use Rattle.recording.specs.Journal.{recordJournal}
+use Rattle.conversion.specs.Call.{convertFrom, convertCall}
+use Rattle.conversion.specs.declared.Conversion.{Conversion}
 use Rattle.report.specs.Report.{outputText, reportText}
 
 -- What the reader answers of a journal with this header that is longer than any header tells.
@@ -36,13 +39,15 @@ overlong-read bytes h = go (isHeader bytes) refl
         )
     go false e = rw (le-leb 2 (length bytes) (omega arith), e)
 
--- Its first bytes are refused with the same number.
+-- The header stands in the first bytes.
+header-overlong : (journal : List ℕ) → wordAt (take 2019 journal) 0 ≡ wordAt journal 0
+header-overlong journal = ap₂ (λ (x y : ℕ). x * 256 + y) (getD-take 2019 journal 0 0 (omega arith)) (getD-take 2019 journal 1 0 (omega arith))
+
+-- They are refused with the same number.
 cut-read : (bytes : List ℕ) → 2019 < length bytes → readCall (take 2019 bytes) ≡ readCall bytes
 cut-read bytes h =
-    let w : wordAt (take 2019 bytes) 0 ≡ wordAt bytes 0 =
-    ap₂ (λ (x y : ℕ). x * 256 + y) (getD-take 2019 bytes 0 0 (omega arith)) (getD-take 2019 bytes 1 0 (omega arith)) in
     overlong-read (take 2019 bytes) (omega (arith, length-take-le 2019 bytes (omega arith)))
-    ∙ ap overlong w
+    ∙ ap overlong (header-overlong bytes)
     ∙ sym (overlong-read bytes (omega arith))
 
 pub read-overlong : (journal : List ℕ) → readCall (take 2019 journal) ≡ readCall journal
@@ -59,3 +64,14 @@ record-overlong journal lent = rw (read-overlong journal)
 pub report-overlong : (journal : List ℕ) → reportText (take 2019 journal) ≡ reportText journal
 unfolding reportText
 report-overlong journal = ap outputText (record-overlong journal (replicate 2034 0))
+
+-- The conversion asks the edition in the header first; an accepted journal is no longer.
+pub convert-overlong : (c : Conversion) (journal lent : List ℕ) → convertCall c (take 2019 journal) lent ≡ convertCall c journal lent
+unfolding convertFrom
+convert-overlong c journal lent = go (eqb (readCall journal .refusal) 0) refl
+  where
+    go : (b : Bool) → eqb (readCall journal .refusal) 0 ≡ b → convertCall c (take 2019 journal) lent ≡ convertCall c journal lent
+    go true e =
+        let h = read-begins journal (eqb-true (readCall journal .refusal) 0 e) in
+        ap (λ (bytes : List ℕ). convertCall c bytes lent) (take-all 2019 journal (omega (arith, h .long, h .number)))
+    go false e = rw (header-overlong journal, read-overlong journal, e)

@@ -13,13 +13,13 @@ use Rattle.rules.specs.Questions.{question, ask}
 use Rattle.run.specs.State.{hasStarted, countOf}
 use Rattle.run.specs.declared.Run.{Run}
 use Rattle.journal.specs.Reading.{readCall}
-use Rattle.journal.specs.Writing.{isReplayed, refusedOutput, writtenOutput}
+use Rattle.journal.specs.Writing.{isReplayed, refusedOutput, writtenOutput, PositionedOutput, positioned}
 use Rattle.journal.specs.declared.JournalWritten.{JournalWritten}
 use Rattle.journal.proofs.Accepted.{read-replayed}
 use Rattle.recording.specs.Call.{noRequests}
 use Rattle.recording.proofs.Read.{read-whole}
 use Rattle.page.specs.Call.{pageOf, pageCall}
-use Rattle.page.specs.Journal.{PageOutput, positioned, pageJournal}
+use Rattle.page.specs.Journal.{pageJournal}
 use Rattle.page.proofs.Enough.{page-most}
 use Rattle.page.proofs.Outcome.{Refused, Drawn, journal-outcome}
 use Rattle.text.specs.Text.{refusedText, Prints}
@@ -51,7 +51,7 @@ module _ (journal lent : List ℕ) where
         go (inl (position, h)) =
             let t = refused-text position h in
             rw (f ∙ t .0, number ∙ t .2, ← t .1) at p
-        go (inr h) = absurd (z (number ∙ ap (λ (o : PageOutput). o .answer .refusal) (h .output)))
+        go (inr h) = absurd (z (number ∙ ap (λ (o : PositionedOutput). o .answer .refusal) (h .output)))
 
     pub page-printed : after ≡ pageJournal journal lent .bytes → done .refusal ≡ 0 → Prints (wallText journal lent) lent after (done .written)
     page-printed f z = go (journal-outcome journal lent)
@@ -64,11 +64,11 @@ module _ (journal lent : List ℕ) where
         go (inl (position, h)) = absurd (h .some (sym (refused-text position h .2) ∙ sym number ∙ z))
         go (inr h) =
             let w : done .written ≡ length (pageOf (readCall journal .run)) =
-            ap (λ (d : JournalWritten). d .written) e ∙ ap (λ (o : PageOutput). o .answer .written) (h .output) in
+            ap (λ (d : JournalWritten). d .written) e ∙ ap (λ (o : PositionedOutput). o .answer .written) (h .output) in
             let fits = le-leb (length (pageOf (readCall journal .run))) (length lent) (h .room) in
             record {
               number = rw (written-text h, fits) w;
-              bytes = rw (written-text h, fits, w) (f ∙ ap (λ (o : PageOutput). o .bytes) (h .output));
+              bytes = rw (written-text h, fits, w) (f ∙ ap (λ (o : PositionedOutput). o .bytes) (h .output));
             }
 
 -- The text is told by the first 2,019 bytes of a journal.

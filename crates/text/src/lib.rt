@@ -1,11 +1,12 @@
-// The text that the programs print, written to lent bytes: bytes as digits, refusals, numbers in columns. Where the bytes that are lent for a
-// text are too few nothing is written, and the answer is 0.
+// The text that the programs print, written to lent bytes: bytes as digits, refusals, numbers in columns; and whether two texts are the same.
+// Where the bytes that are lent for a text are too few nothing is written, and the answer is 0.
 ghost use mathlib.Core.Path.{_≡_};
 ghost use Prim.Native.Nat.{_+_, _<_, _≤_};
 ghost use lib.ListN.{length};
 ghost use lib.Seq.{sets};
 ghost use Rattle.text.specs.Text.{digitCode, bytesText, decimalText, columnText, refusedWord, refusedText, Prints};
 ghost use Rattle.text.specs.InnerColumn.{placeCode};
+ghost use Rattle.words.specs.Bytes.{sameWords};
 
 // The character of a digit.
 fn digit(d: u8) -> u8
@@ -103,4 +104,20 @@ pub fn refused(n: u8, out: &mut [u8]) -> usize
     column(n as u32, &mut out[8..last]);
     out[last] = b'\n';
     last + 1
+}
+
+// Whether two texts are the same.
+pub fn same(a: &[u8], b: &[u8]) -> bool
+    ensures { λ r. ⌜ r ≡ sameWords (now (a .entry)) (now (b .entry)) ⌝ }
+{
+    if a.len() != b.len() {
+        return false;
+    }
+    let mut alike = true;
+    let mut i = 0;
+    while i < a.len() {
+        alike = alike & (a[i] == b[i]);
+        i += 1;
+    }
+    alike
 }
