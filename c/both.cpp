@@ -41,6 +41,12 @@ int main()
     page.resize(shown.written);
     must(shown.refusal == CUT_ACCEPTED && page.substr(0, 17) == "Z1 F    0      0\n" && page.size() == 9 * 17, "its page has a line a zone, and the total");
 
+    const std::uint8_t journal[] = {0x24, 0x01, 0x00, 0x05, 0x00, 0x07, 0x80, 0x00};
+    std::uint8_t newer[sizeof journal];
+    const cut_written upgraded = cut_journal_upgrade(journal, sizeof journal, newer, sizeof newer);
+    must(upgraded.written == sizeof journal && newer[0] == 0x64, "a journal gets edition 3");
+    must(cut_journal_downgrade(journal, sizeof journal, newer, sizeof newer).refusal == CUT_REFUSED_EDITION, "edition 1 is not converted from 3");
+
     const std::string version =
         std::to_string(CUT_VERSION_MAJOR) + "." + std::to_string(CUT_VERSION_MINOR) + "." + std::to_string(CUT_VERSION_PATCH);
     must(version == CUT_VERSION, "the version is the same in numbers and in words");

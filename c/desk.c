@@ -1,6 +1,6 @@
 /* A control room's desk: a whole run of three zones with 10, 20 and 30 cars, from the opening to the recording's bytes and its page, then the same
- * from the journal alone, line checks, street entrances, a sign controller and empty sites. Prints the recording with its total, and the page; exits
- * 1 if a value is not as it must be. */
+ * from the journal alone, line checks, street entrances, a sign controller, empty sites and journals converted to another edition. Prints the
+ * recording with its total, and the page; exits 1 if a value is not as it must be. */
 #include <inttypes.h>
 #include <stdio.h>
 #include <stdlib.h>
@@ -212,6 +212,29 @@ static void pinned_up(void)
     printf("%.*s", (int)size, text);
 }
 
+/* The journal for controllers of edition 3, and back: only the edition in its first byte changes, and the recording of both shows the same behind
+ * it. Refused are another edition, a byte too few, a hand-over of 0 cars, and a gate on its way to edition 1. */
+static void converted(void)
+{
+    uint8_t newer[sizeof journal + 1], older[sizeof journal], bytes[CUT_RECORDING_BYTES];
+    newer[sizeof journal] = 0xEE;
+    cut_written w = cut_journal_upgrade(journal, sizeof journal, newer, sizeof newer);
+    must(w.refusal == CUT_ACCEPTED && w.written == sizeof journal, "the journal is converted");
+    must(newer[0] == 0x68 && memcmp(newer + 1, journal + 1, sizeof journal - 1) == 0, "only its edition changes");
+    must(newer[sizeof journal] == 0xEE, "and nothing behind it");
+    w = cut_journal_record(newer, sizeof journal, bytes, sizeof bytes);
+    must(w.refusal == CUT_ACCEPTED && w.written == sizeof recording && w.total == 60, "its recording is written");
+    must(bytes[0] == 0x68 && memcmp(bytes + 1, recording + 1, sizeof recording - 1) == 0, "and shows the same in edition 3");
+    accepted(cut_journal_downgrade(newer, sizeof journal, older, sizeof older).refusal, "it is converted back");
+    must(memcmp(older, journal, sizeof journal) == 0, "to the same bytes");
+    must(cut_journal_upgrade(newer, sizeof journal, older, sizeof older).refusal == CUT_REFUSED_EDITION, "edition 3 is not converted from 1");
+    w = cut_journal_upgrade(journal, sizeof journal, older, sizeof older - 1);
+    must(w.refusal == CUT_REFUSED_TOO_FEW_BYTES && w.written == 0 && older[0] == 0x28, "a byte too few is refused");
+    const uint8_t checks[] = {0x64, 0x01, 0x00, 0x05, 0x00, 0x07, 0x01, 0x00}, gates[] = {0x64, 0x01, 0x00, 0x05, 0x00, 0x07, 0xC0, 0x02};
+    must(cut_journal_downgrade(checks, sizeof checks, older, sizeof older).refusal == CUT_REFUSED_NO_CARS, "0 cars are refused");
+    must(cut_journal_downgrade(gates, sizeof gates, older, sizeof older).refusal == CUT_REFUSED_GATE_RECORD, "and a gate on its way to 1");
+}
+
 int main(void)
 {
     const uint16_t stocks[] = {10, 20, 30};
@@ -242,6 +265,7 @@ int main(void)
     full();
     awaited();
     empty();
+    converted();
 
     for (size_t i = 0; i < w.written; i++)
         printf(i == 0 ? "%02X" : " %02X", bytes[i]);

@@ -10,9 +10,9 @@
 /* The version of the calls and structs. The major number, which is the library's soname too, is raised when a program would have to be
  * changed or compiled anew. */
 #define CUT_VERSION_MAJOR 3
-#define CUT_VERSION_MINOR 2
+#define CUT_VERSION_MINOR 3
 #define CUT_VERSION_PATCH 0
-#define CUT_VERSION "3.2.0"
+#define CUT_VERSION "3.3.0"
 
 /* The first and the last "edition" of zones, runs, journals and recordings that this version knows. An opening that names another one and a
  * journal of another one are refused with 15, a zone or a run of another one with 1.
@@ -69,7 +69,8 @@ enum cut_refusal {
     /* "Are the lent bytes enough?" No: too few bytes were lent. */
     CUT_REFUSED_TOO_FEW_BYTES = 14,
     /* "Has the journal two bytes and edition 1", 2 or 3? In an opening: is the edition that it names 1 to 3? At a gate: "does the run's
-     * edition have gates?" No: the edition is not 1 to 3, or (gates) has none, or (reading) there is no header. */
+     * edition have gates?" In a conversion, before reading: is the journal's edition the one that it converts from? No: the edition is not 1 to
+     * 3, or (gates) has none, or (conversion) is not the one converted from, or (reading) there is no header. */
     CUT_REFUSED_EDITION = 15,
     /* "Is the zones field 1 to 7 and the record number at most 1,000?" No: the header's zones or records are out of range. */
     CUT_REFUSED_HEADER = 16,
@@ -83,7 +84,11 @@ enum cut_refusal {
     CUT_REFUSED_STOCK_TOO_HIGH = 20,
     /* Do "stocks plus cars on lines" stay at or below 65,535 with the cars of an entry? No: an entry would lift stocks and cars on lines
      * above 65,535. */
-    CUT_REFUSED_SUM_TOO_HIGH = 21
+    CUT_REFUSED_SUM_TOO_HIGH = 21,
+    /* Is the journal without "a hand-over of 0 cars"? No: the journal to be converted holds a hand-over of 0 cars. */
+    CUT_REFUSED_NO_CARS = 22,
+    /* "On its way to edition 1": is the journal without "a gate record"? No: the journal to be converted to edition 1 holds a gate record. */
+    CUT_REFUSED_GATE_RECORD = 23
 };
 
 /* The kinds of a checkpoint ("mark"): none, mutable ("provisional") or permanent ("firm"). Every other value of a field that holds one is
@@ -143,7 +148,7 @@ static inline const char *cut_refusal_words(uint8_t refusal)
     case CUT_REFUSED_TOO_FEW_BYTES:
         return "too few bytes were lent";
     case CUT_REFUSED_EDITION:
-        return "the edition is not 1 to 3, or (gates) has none, or (reading) there is no header";
+        return "the edition is not 1 to 3, or (gates) has none, or (conversion) is not the one converted from, or (reading) there is no header";
     case CUT_REFUSED_HEADER:
         return "the header's zones or records are out of range";
     case CUT_REFUSED_LENGTH:
@@ -156,6 +161,10 @@ static inline const char *cut_refusal_words(uint8_t refusal)
         return "the zone's stock would exceed 65,535 (zone part alone)";
     case CUT_REFUSED_SUM_TOO_HIGH:
         return "an entry would lift stocks and cars on lines above 65,535";
+    case CUT_REFUSED_NO_CARS:
+        return "the journal to be converted holds a hand-over of 0 cars";
+    case CUT_REFUSED_GATE_RECORD:
+        return "the journal to be converted to edition 1 holds a gate record";
     default:
         return "not a number that a call answers";
     }

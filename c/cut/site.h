@@ -1,4 +1,4 @@
-/* The Cut Recorder's site engine, journal, recording and page, for programs in C and C++; docs/INTEGRATION.md says how to use them.
+/* The Cut Recorder's site engine, journal, conversion, recording and page, for programs in C and C++; docs/INTEGRATION.md says how to use them.
  *
  * A control room keeps one cut_run and passes it to each call:
  *
@@ -21,7 +21,8 @@
  * cut_record, cut_page and cut_write only read theirs, and may share it. The header is C11 or C++11, the library for x86-64 with System V calls; of
  * the C library it uses memcpy and memset.
  *
- * Whoever has a journal and wants its recording needs cut_journal_record alone, or cut_journal_page for its page, which a person reads.
+ * Whoever has a journal and wants its recording needs cut_journal_record alone, or cut_journal_page for its page, which a person reads; a
+ * journal of any edition is read. Whoever wants one of edition 1 to be one of edition 3 needs cut_journal_upgrade, and cut_journal_downgrade back.
  *
  * Journal and recording are 16-bit words, high byte first.
  * Journal: edition * 8192 + (zones - 1) * 1024 + number of records; the opening stock of each zone; a word a record:
@@ -63,7 +64,7 @@ extern "C" {
 #define CUT_PAGE_BYTES 1105
 
 /* Bytes of stack that are enough for a call, as in <cut/zone.h>: cut_open; cut_send, cut_receive, cut_start, cut_enter and cut_leave;
- * cut_record; cut_page; cut_write; and the three calls on a journal. */
+ * cut_record; cut_page; cut_write; and the calls on a journal, of which both conversions have one number. */
 #define CUT_OPEN_STACK 4608
 #define CUT_CALL_STACK 2048
 #define CUT_RECORD_STACK 36864
@@ -72,6 +73,7 @@ extern "C" {
 #define CUT_JOURNAL_READ_STACK 22528
 #define CUT_JOURNAL_RECORD_STACK 18432
 #define CUT_JOURNAL_PAGE_STACK 20480
+#define CUT_JOURNAL_CONVERT_STACK 24576
 
 /* A "zone" of a run. 10 bytes, alignment 2. */
 typedef struct cut_local {
@@ -151,7 +153,7 @@ typedef struct cut_written {
     uint8_t refusal; /* the "refusal", an enum cut_refusal */
     uint32_t total;  /* "the recorded total" of cut_record and cut_journal_record: the cars of the recording's stocks and items together;
                         0 of the others */
-    size_t position; /* of cut_journal_record and cut_journal_page, as in a cut_reading; else 0 */
+    size_t position; /* of the calls on a journal, as in a cut_reading; else 0 */
     size_t written;  /* "the number of bytes written" to the front of out; bytes behind them keep what they had */
 } cut_written;
 
@@ -216,6 +218,17 @@ cut_written cut_journal_record(const uint8_t *bytes, size_t size, uint8_t *out, 
 /* Reads a journal of `size` bytes and writes the page of its recording ("a page for the wall") to `room` bytes; CUT_PAGE_BYTES are enough.
  * Refused with: reading's numbers, then 12, 13, 14. Stack: CUT_JOURNAL_PAGE_STACK. */
 cut_written cut_journal_page(const uint8_t *bytes, size_t size, uint8_t *out, size_t room);
+
+/* Converts a journal of `size` bytes from edition 1 to edition 3 and writes it to `room` bytes, of which it needs `size`; CUT_JOURNAL_BYTES are
+ * enough. Only the edition in its header changes; what is written is accepted by reading, and its recording shows the same zones, stocks and
+ * channels ("lines"), its page the same text. Whether a recording was started or is complete is not asked. Refused with: 15 the journal's
+ * edition is not 1; then reading's numbers; then 22 it holds a message ("hand-over") of 0 cars; 14 too few bytes are lent. Stack:
+ * CUT_JOURNAL_CONVERT_STACK. */
+cut_written cut_journal_upgrade(const uint8_t *bytes, size_t size, uint8_t *out, size_t room);
+
+/* The same from edition 3 to edition 1. Refused with: 15 the journal's edition is not 3; then reading's numbers; then 22, as above; then 23 it
+ * holds a record of a gate, which edition 1 does not have; 14. Stack: CUT_JOURNAL_CONVERT_STACK. */
+cut_written cut_journal_downgrade(const uint8_t *bytes, size_t size, uint8_t *out, size_t room);
 
 /* Opens a site of `count` zones with their n stocks under an edition ("open"). Where n is 0 it opens an empty one, with stock 0 in every zone:
  * stocks may then be null, and what it names is read by nobody. Refused with: 15 the edition is not 1 to 3; 2 the count is not 2 to 8; 3 n is

@@ -149,9 +149,9 @@ readPlain bytes =
     let t = readCall bytes in
     record { refusal = t .refusal; position = t .position; remaining = t .remaining; run = plainRun (t .run) }
 
--- A journal's recording, and its page.
+-- A journal's recording; its page and its conversion.
 abbrev pub recordedPlain : JournalRecorded → PlainWritten
 recordedPlain w = record { refusal = w .refusal; position = w .position; written = w .written; total = w .total }
 
-abbrev pub pagedPlain : JournalWritten → PlainWritten
-pagedPlain w = record { refusal = w .refusal; position = w .position; written = w .written; total = 0 }
+abbrev pub positionedPlain : JournalWritten → PlainWritten
+positionedPlain w = record { refusal = w .refusal; position = w .position; written = w .written; total = 0 }
