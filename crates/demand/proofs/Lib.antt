@@ -5,3 +5,4 @@ pub mod Premises
 pub mod Total
 pub mod Kept
 pub mod Paged
+pub mod Converted

@@ -1,7 +1,7 @@
 -- The page call after a list of calls: what it writes is the page of what the recording shows.
 use mathlib.Core.Path.{_≡_, refl, sym, _∙_, ap, ap₂, subst}
 use mathlib.Core.Bool.{true, false≢true}
-use mathlib.Core.Logic.{_≢_, _⊎_, inl, inr}
+use mathlib.Core.Logic.{_⊎_, inl, inr}
 use mathlib.Core.List.{List, [], append-nil}
 use Prim.Native.Nat.{ℕ}
 use lib.ListN.{length, take, drop}
@@ -20,7 +20,7 @@ use Rattle.run.specs.declared.Terms.{Terms}
 use Rattle.words.specs.Bytes.{wordAt}
 use Rattle.words.specs.Header.{zonesIn}
 use Rattle.journal.specs.Format.{openedWith, recordWords}
-use Rattle.journal.specs.Writing.{isReplayed, Output, refusedOutput, writtenOutput}
+use Rattle.journal.specs.Writing.{isReplayed, Output, refusedOutput, writtenOutput, PositionedOutput, positioned}
 use Rattle.journal.specs.declared.Written.{Written}
 use Rattle.journal.proofs.TrueRuns.{true-replayed}
 use Rattle.recording.specs.Call.{ruleCallsIn, snapshotOf, recordCall}
@@ -32,7 +32,6 @@ use Rattle.page.specs.Call.{pageOf, pageCall}
 use Rattle.page.specs.Claims.{NothingCut}
 use Rattle.page.specs.Layout.{pageWith}
 use Rattle.page.proofs.Enough.{page-most}
-use Rattle.page.specs.Journal.{PageOutput, positioned}
 use Rattle.page.proofs.Outcome.{Refused, Drawn, run-outcome}
 use Rattle.page.proofs.Whole.{nothing-cut, page-shows}
 use Rattle.promises.specs.Answers.{OpenAnswers, RecordAnswers, PageAnswers}
@@ -54,9 +53,9 @@ module _ (r : Run) (w : WholeRun r) (e : isReplayed r ≡ true) (lent other : Li
     where
       go : Refused lent 0 (positioned 0 (pageCall r lent)) ⊎ Drawn lent r (positioned 0 (pageCall r lent))
           → take (pageCall r lent .answer .written) (pageCall r lent .bytes) ≡ pageOf r
-      go (inl h) = absurd (h .some (sym (ap (λ (o : PageOutput). o .answer .refusal) (h .output)) ∙ z))
+      go (inl h) = absurd (h .some (sym (ap (λ (o : PositionedOutput). o .answer .refusal) (h .output)) ∙ z))
       go (inr h) =
-          ap (λ (o : PageOutput). take (o .answer .written) (o .bytes)) (h .output)
+          ap (λ (o : PositionedOutput). take (o .answer .written) (o .bytes)) (h .output)
           ∙ take-append-seam (pageOf r) (drop (length (pageOf r)) lent)
 
   -- The page by the bytes of the recording, and the total answered beside them.

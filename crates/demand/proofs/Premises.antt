@@ -1,11 +1,13 @@
 -- The premises of demand 3 are met: every list of calls can be made from every opening, every recording call and page call has an answer, and
 -- case A, with its page, a case with a line check in edition 2, one with gates in edition 3 and one from an opening without stocks are instances
--- whose recordings are complete.
+-- whose recordings are complete. So are those of the claim on conversions: every writing, conversion and reading has an answer, and case A, its
+-- journal converted to edition 3, and case A's calls in edition 3, their journal converted to edition 1, are instances whose recordings are
+-- complete.
 use mathlib.Core.Path.{_≡_, refl, ap}
 use mathlib.Core.List.{List, [], _∷_, _++_}
 use Prim.Native.Nat.{ℕ}
 use native.Mathlib.Omega.{arith}
-use lib.ListN.{take, replicate}
+use lib.ListN.{take, drop, replicate}
 use Rattle.rules.specs.Cut.{Cut}
 use Rattle.rules.specs.Edition.{isEdition, isTraffic, hasGates}
 use Rattle.rules.specs.Questions.{isCount, isOn}
@@ -24,9 +26,11 @@ use Rattle.run.specs.declared.SiteCall.{SiteCall}
 use Rattle.run.specs.declared.SiteCall.the-variants.{Send, Receive, Start, Gate}
 use Rattle.rules.specs.declared.Direction.the-variants.{In, Out}
 use Rattle.run.specs.declared.Terms.{Terms}
+use Rattle.journal.specs.Claims.{caseA}
 use Rattle.journal.specs.Format.{journalBytes, decode}
 use Rattle.journal.specs.Reading.{readCall}
-use Rattle.journal.specs.Writing.{sameLocal, sameChannel, sameZones, sameChannels, sameState, replaysTo, isReplayed, Output}
+use Rattle.journal.specs.Writing.{sameLocal, sameChannel, sameZones, sameChannels, sameState, replaysTo, isReplayed, Output, PositionedOutput, writeCall}
+use Rattle.journal.specs.declared.Reading.{Reading}
 use Rattle.recording.specs.Call.{RecordOutput, noRequests, recordCall}
 use Rattle.recording.specs.Layout.{itemWords, recordingBytes}
 use Rattle.recording.specs.Shown.{shownIn}
@@ -36,8 +40,13 @@ use Rattle.words.specs.Bytes.{wordAt}
 use Rattle.words.specs.Header.{zonesIn}
 use Rattle.page.specs.Call.{pageCall}
 use Rattle.page.specs.Layout.{zoneText, channelText, channelsText, totalText, pageWith}
-use Rattle.promises.specs.Answers.{OpenAnswers, RecordAnswers, PageAnswers}
+use Rattle.conversion.specs.Call.{convertFrom, convertCall}
+use Rattle.conversion.specs.Editions.{sourceOf, targetOf, withEdition}
+use Rattle.conversion.specs.declared.Conversion.{Conversion}
+use Rattle.conversion.specs.declared.Conversion.the-variants.{Upgrade, Downgrade}
+use Rattle.promises.specs.Answers.{OpenAnswers, RecordAnswers, PageAnswers, ReadAnswers, WriteAnswers, ConvertAnswers}
 use Rattle.demand.specs.Made.{Made, done, then}
+use Rattle.demand.proofs.Converted.{conversion-demand}
 use Rattle.demand.proofs.Paged.{page-demand}
 use Rattle.demand.proofs.Three.{demand-three}
 
@@ -69,6 +78,48 @@ pages r lent = (refl, refl)
 
 abbrev pagedBy : Opening → List SiteCall → ℕ → Output
 pagedBy o cs lent = pageCall (after cs (openCall o .run)) (replicate lent 0)
+
+pub writes : (r : Run) (lent : List ℕ) → WriteAnswers r lent (writeCall r lent .answer) (writeCall r lent .bytes)
+writes r lent = (refl, refl)
+
+pub conversions : (c : Conversion) (journal lent : List ℕ)
+    → ConvertAnswers c journal lent (convertCall c journal lent .answer) (convertCall c journal lent .bytes)
+conversions c journal lent = (refl, refl)
+
+pub reads : (journal : List ℕ) → ReadAnswers journal (readCall journal)
+reads journal = refl
+
+-- The journal after a list of calls, its conversion, what the result is read as, and the recording of that.
+abbrev writtenBy : Opening → List SiteCall → ℕ → Output
+writtenBy o cs lent = writeCall (after cs (openCall o .run)) (replicate lent 0)
+
+abbrev convertedBy : Conversion → Opening → List SiteCall → ℕ → PositionedOutput
+convertedBy c o cs lent = convertCall c (take (writtenBy o cs lent .answer .written) (writtenBy o cs lent .bytes)) (replicate lent 0)
+
+abbrev rereadBy : Conversion → Opening → List SiteCall → ℕ → Reading
+rereadBy c o cs lent = readCall (take (convertedBy c o cs lent .answer .written) (convertedBy c o cs lent .bytes))
+
+abbrev rerecordedBy : Conversion → Opening → List SiteCall → (lent room : ℕ) → RecordOutput
+rerecordedBy c o cs lent room = recordCall (rereadBy c o cs lent .run) (replicate room 0)
+
+converted-cut : (c : Conversion) (count : ℕ) (list : List ℕ) (cs : List SiteCall) (lent room : ℕ) → AllTyped cs
+    → let o = openingAs (termsAs (sourceOf c) count) list in
+    openCall o .refusal ≡ 0 → writtenBy o cs lent .answer .refusal ≡ 0 → convertedBy c o cs lent .answer .refusal ≡ 0
+    → let x = rerecordedBy c o cs lent room in
+    x .answer .refusal ≡ 0
+    → Cut (openingOf (filled (openingAs (termsAs (targetOf c) count) list))) (acceptedCalls cs (openCall o .run)) (shownIn (take (x .answer .written) (x .bytes)))
+converted-cut c count list cs lent room typed opened written converted answered =
+    let o = openingAs (termsAs (sourceOf c) count) list in
+    let r = after cs (openCall o .run) in
+    let v = writtenBy o cs lent in
+    let w = convertedBy c o cs lent in
+    let t = rereadBy c o cs lent in
+    let x = rerecordedBy c o cs lent room in
+    conversion-demand c count list (openCall o) (opens (o .terms) list) opened cs _ r (makes cs (openCall o .run) typed)
+    (replicate lent 0) (v .bytes) (v .answer) (writes r (replicate lent 0)) written
+    (replicate lent 0) (w .bytes) (w .answer) (conversions c (take (v .answer .written) (v .bytes)) (replicate lent 0))
+    .recorded converted t (reads (take (w .answer .written) (w .bytes)))
+    (replicate room 0) (x .bytes) (x .answer) (records (t .run) (replicate room 0)) .cut answered
 
 -- What the recordings of the instances are computed by, named once: `unfolding computed` unfolds all of it.
 computed : Opening → List SiteCall → ℕ → RecordOutput
@@ -121,8 +172,33 @@ case-page =
     (makes callsA (openCall openingA .run) typedA) (replicate 86 0) (w .bytes) (w .answer) (pages r (replicate 86 0)) (replicate 16 0) (v .bytes) (v .answer)
     (records r (replicate 16 0)) .shows (ap (λ (x : Output). x .answer .refusal) pageA) answeredA
 
--- The same stocks in edition 2. Zone 3 sends zone 1 a line check that stays on its line. Zone 1, which depends on zone 2, starts, and sends zone 3 a line check with the flag; zone 3 takes it, and
--- hands cars to zone 2, which takes them before the request of zone 1. So zone 3 is recorded too, with the event before the request.
+-- Its journal, and its conversion to edition 3: "28 09 .." becomes "68 09 ..".
+writtenA : writtenBy openingA callsA 26 ≡ record { answer = record { refusal = 0; written = 26 }; bytes = caseA }
+unfolding computed writeCall
+writtenA = refl
+
+convertedA : convertedBy Upgrade openingA callsA 26 ≡ record { answer = record { refusal = 0; position = 0; written = 26 }; bytes = 104 ∷ drop 1 caseA }
+unfolding computed writeCall convertFrom withEdition
+convertedA = refl
+
+-- "68 01 80 02 00 04 80 01 00 18 00 00 00 1E 02 02": of the recording too the edition alone is another one.
+shownA : rerecordedBy Upgrade openingA callsA 26 16
+    ≡ record {
+      answer = record { refusal = 0; written = 16; total = 60 };
+      bytes = 104 ∷ 1 ∷ 128 ∷ 2 ∷ 0 ∷ 4 ∷ 128 ∷ 1 ∷ 0 ∷ 24 ∷ 0 ∷ 0 ∷ 0 ∷ 30 ∷ 2 ∷ 2 ∷ [];
+    }
+unfolding computed writeCall convertFrom withEdition
+shownA = refl
+
+pub case-converted : let x = rerecordedBy Upgrade openingA callsA 26 16 in
+    Cut (openingOf (openingAs (termsAs 3 3) (10 ∷ 20 ∷ 30 ∷ []))) (acceptedCalls callsA (openCall openingA .run)) (shownIn (take (x .answer .written) (x .bytes)))
+case-converted =
+    converted-cut Upgrade 3 (10 ∷ 20 ∷ 30 ∷ []) callsA 26 16 typedA openedA (ap (λ (x : Output). x .answer .refusal) writtenA)
+    (ap (λ (x : PositionedOutput). x .answer .refusal) convertedA) (ap (λ (x : RecordOutput). x .answer .refusal) shownA)
+
+-- The same stocks in edition 2. Zone 3 sends zone 1 a line check that stays on its line. Zone 1, which depends on zone 2, starts, and sends
+-- zone 3 a line check with the flag; zone 3 takes it, and hands cars to zone 2, which takes them before the request of zone 1. So zone 3 is
+-- recorded too, with the event before the request.
 abbrev pub openingCheck : Opening
 openingCheck = openingAs (termsAs 2 3) (10 ∷ 20 ∷ 30 ∷ [])
 
@@ -179,6 +255,30 @@ shownGates = refl
 pub case-gates : Cut (openingOf openingGates) (acceptedCalls callsGates (openCall openingGates .run))
     (shownIn (take (recordedBy openingGates callsGates 14 .answer .written) (recordedBy openingGates callsGates 14 .bytes)))
 case-gates = recorded-cut openingGates callsGates 14 typedGates openedGates (ap (λ (x : RecordOutput). x .answer .refusal) shownGates)
+
+-- The same opening and the calls of case A: their journal, and its conversion to edition 1, which is that of case A.
+writtenBack : writtenBy openingGates callsA 26 ≡ record { answer = record { refusal = 0; written = 26 }; bytes = 104 ∷ drop 1 caseA }
+unfolding computed writeCall
+writtenBack = refl
+
+convertedBack : convertedBy Downgrade openingGates callsA 26 ≡ record { answer = record { refusal = 0; position = 0; written = 26 }; bytes = caseA }
+unfolding computed writeCall convertFrom withEdition
+convertedBack = refl
+
+-- "28 01 80 02 00 04 80 01 00 18 00 00 00 1E 02 02", the recording of case A.
+shownBack : rerecordedBy Downgrade openingGates callsA 26 16
+    ≡ record {
+      answer = record { refusal = 0; written = 16; total = 60 };
+      bytes = 40 ∷ 1 ∷ 128 ∷ 2 ∷ 0 ∷ 4 ∷ 128 ∷ 1 ∷ 0 ∷ 24 ∷ 0 ∷ 0 ∷ 0 ∷ 30 ∷ 2 ∷ 2 ∷ [];
+    }
+unfolding computed writeCall convertFrom withEdition
+shownBack = refl
+
+pub case-converted-back : let x = rerecordedBy Downgrade openingGates callsA 26 16 in
+    Cut (openingOf openingA) (acceptedCalls callsA (openCall openingGates .run)) (shownIn (take (x .answer .written) (x .bytes)))
+case-converted-back =
+    converted-cut Downgrade 3 (10 ∷ 20 ∷ 30 ∷ []) callsA 26 16 typedA openedGates (ap (λ (x : Output). x .answer .refusal) writtenBack)
+    (ap (λ (x : PositionedOutput). x .answer .refusal) convertedBack) (ap (λ (x : RecordOutput). x .answer .refusal) shownBack)
 
 -- An empty car park, opened without stocks in edition 3, the calls of the journal "68 07 00 00 00 00 00 00 C0 05 01 02 41 00 08 01 88 00 48 00
 -- 48 00" behind a message of a car that zone 3 does not have. Cars drive in at zone 1 and go on to zone 2, which starts.

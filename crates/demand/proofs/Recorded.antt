@@ -116,20 +116,21 @@ answered-by r bytes lent true true true e f g = record {
   fourteen = λ (q : _≡_ {A = ℕ} 0 14). absurd (omega arith);
 }
 
--- The number that such a call answers is the first of its questions.
+-- The number that a call answers is that of the first "no" to its questions.
+pub number-asked : {A : Type 0} (qs : List Question) (refused : ℕ → A) (x : A) (number : A → ℕ) → ((n : ℕ) → number (refused n) ≡ n) → number x ≡ 0
+    → number (ask qs refused x) ≡ refusal qs
+number-asked [] refused x number f z = z
+number-asked (q ∷ qs) refused x number f z = go (q .yes) (number-asked qs refused x number f z)
+  where
+    go : (b : Bool) → number (ask qs refused x) ≡ refusal qs → number (cond b (ask qs refused x) (refused (q .number))) ≡ cond b (refusal qs) (q .number)
+    go true h = h
+    go false h = f (q .number)
+
 pub by-questions : {A : Type 0} (r : Run) (bytes lent : List ℕ) (refused : ℕ → A) (x : A) (number : A → ℕ) → ((n : ℕ) → number (refused n) ≡ n)
     → number x ≡ 0 → isReplayed r ≡ true → ByNumber r bytes lent (number (ask (recordingQuestions r bytes lent) refused x))
 by-questions r bytes lent refused x number f z e =
-    subst (ByNumber r bytes lent) (sym (asked (recordingQuestions r bytes lent)))
+    subst (ByNumber r bytes lent) (sym (number-asked (recordingQuestions r bytes lent) refused x number f z))
     (rw e (answered-by r bytes lent (hasStarted (r .head)) (noRequests (countOf (r .head)) (r .channels)) (leb (length bytes) (length lent)) refl refl refl))
-  where
-    asked : (qs : List Question) → number (ask qs refused x) ≡ refusal qs
-    asked [] = z
-    asked (q ∷ qs) = go (q .yes) (asked qs)
-      where
-        go : (b : Bool) → number (ask qs refused x) ≡ refusal qs → number (cond b (ask qs refused x) (refused (q .number))) ≡ cond b (refusal qs) (q .number)
-        go true h = h
-        go false h = f (q .number)
 
 -- No zone is permanent where none of the site is.
 pub none-permanent : (r : Run) → hasStarted (r .head) ≡ false → (z : ℕ) → isPermanent (siteOf r .zone z .checkpoint) ≡ false
@@ -158,7 +159,7 @@ module _ (r : Run) (w : WholeRun r) (e : isReplayed r ≡ true) (lent : List ℕ
   pub replayed-shown : recordCall r lent .answer .refusal ≡ 0 → shownIn (take (recordCall r lent .answer .written) (recordCall r lent .bytes)) ≡ snapshotOf r
   replayed-shown z = ap shownIn (written z ∙ sym (append-nil (bytesOf r))) ∙ recording-shows r w e []
 
-  replayed-demand : Demand (openedWith r) (ruleCallsIn (recordWords r)) r lent (recordCall r lent .answer) (recordCall r lent .bytes)
+  pub replayed-demand : Demand (openedWith r) (ruleCallsIn (recordWords r)) r lent (recordCall r lent .answer) (recordCall r lent .bytes)
   replayed-demand = record {
     only-complete = λ z. let a = by-number .accepted z in complete-if r w e (a .0) (a .1);
     if-complete = λ c n. let h = if-complete r w e c in by-number .accepts (h .0) (h .1) n;

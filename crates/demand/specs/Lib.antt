@@ -1,3 +1,4 @@
 pub mod Made
 pub mod Demand
 pub mod Page
+pub mod Conversion

@@ -1,4 +1,4 @@
--- The worked edges (docs/RULES.md, section 8) in one table, those of editions, of gates and of searches in the files beside this one. A run that a row
+-- The worked edges (docs/RULES.md, section 8) in one table, those of the requests in the files beside this one. A run that a row
 -- begins with is opened or reached in an earlier row, but for those of `states` and `gateStates` and those of an edition that is not
 -- defined. Numbers with 0x are hexadecimal, as in the layouts.
 use mathlib.Core.Bool.{true, false}
@@ -20,6 +20,7 @@ use Rattle.edges.specs.Searches.{searches}
 use Rattle.edges.specs.Remaining.{remaining}
 use Rattle.edges.specs.Empty.{empties}
 use Rattle.edges.specs.Pages.{pageRows}
+use Rattle.edges.specs.Conversions.{conversions}
 use Rattle.edges.specs.Rows.{
   Row,
   partRow,
@@ -508,4 +509,4 @@ firstEdges =
     ++ journals ++ states
 
 abbrev pub table : List Row
-table = firstEdges ++ editions ++ gates ++ searches ++ remaining ++ empties ++ pageRows
+table = firstEdges ++ editions ++ gates ++ searches ++ remaining ++ empties ++ pageRows ++ conversions

@@ -5,4 +5,5 @@ pub mod Searches
 pub mod Remaining
 pub mod Empty
 pub mod Pages
+pub mod Conversions
 pub mod Edges

@@ -21,21 +21,23 @@ use Rattle.run.specs.declared.SiteCall.{SiteCall}
 use Rattle.run.specs.declared.SiteCall.the-variants.{Receive}
 use Rattle.run.specs.declared.Answer.{Answer}
 use Rattle.journal.specs.Reading.{readCall}
-use Rattle.journal.specs.Writing.{Output, writeCall}
+use Rattle.journal.specs.Writing.{Output, writeCall, PositionedOutput}
 use Rattle.journal.specs.declared.Reading.{Reading}
 use Rattle.recording.specs.Call.{RecordOutput, recordCall}
 use Rattle.recording.specs.Journal.{JournalOutput, recordJournal}
 use Rattle.text.specs.Codes.{codes, codesOf}
 use Rattle.zone.proofs.Examples as zones
 use Rattle.page.specs.Call.{pageCall}
-use Rattle.page.specs.Journal.{PageOutput, pageJournal}
+use Rattle.page.specs.Journal.{pageJournal}
 use Rattle.page.specs.Layout.{mostPageBytes}
+use Rattle.conversion.specs.Call.{convertCall}
+use Rattle.conversion.specs.declared.Conversion.{Conversion}
 use Rattle.report.specs.Report.{reportText}
 use Rattle.report.specs.Wall.{wallText}
 
 -- What a row looks at: an answer of the zone part; an opening; a call on a run, its recording, its page or its journal, each after some calls on
--- it; the reading of a journal; its recording or its page; the programs' texts of a journal; the search for a full channel from a zone to those
--- of a set, after some calls on a run. A row holds this and not its answer, so that the check computes each run only once.
+-- it; the reading of a journal; its recording, its page or its conversion; the programs' texts of a journal; the search for a full channel from a
+-- zone to those of a set, after some calls on a run. A row holds this and not its answer, so that the check computes each run only once.
 pub data RowCall : Type 0 where
   Part : zones.Reply → RowCall
   Open : Opening → RowCall
@@ -49,6 +51,7 @@ pub data RowCall : Type 0 where
   PageJournal : (journal lent : List ℕ) → RowCall
   PrintPage : (journal : List ℕ) → RowCall
   Search : Run → List SiteCall → (zone set : ℕ) → RowCall
+  Convert : Conversion → (journal lent : List ℕ) → RowCall
 
 pub data Reply : Type 0 where
   part : zones.Reply → Reply
@@ -58,7 +61,7 @@ pub data Reply : Type 0 where
   reading : Reading → Reply
   journalRecorded : JournalOutput → Reply
   text : List ℕ → Reply
-  journalPage : PageOutput → Reply
+  positionedOutput : PositionedOutput → Reply
   found : ℕ → Reply
 
 -- The answer, by the definitions that the contracts cite.
@@ -72,9 +75,10 @@ reply (Read journal) = reading (readCall journal)
 reply (RecordJournal journal lent) = journalRecorded (recordJournal journal lent)
 reply (Print journal) = text (reportText journal)
 reply (Page r cs lent) = output (pageCall (after cs r) lent)
-reply (PageJournal journal lent) = journalPage (pageJournal journal lent)
+reply (PageJournal journal lent) = positionedOutput (pageJournal journal lent)
 reply (PrintPage journal) = text (wallText journal (replicate mostPageBytes 0))
 reply (Search r cs zone set) = found (highestFull (after cs r .channels) (index zone) set)
+reply (Convert conversion journal lent) = positionedOutput (convertCall conversion journal lent)
 
 pub record Row : Type 0 where
   pub call : RowCall
@@ -159,12 +163,19 @@ pages r cs lent n number bytes = record {
 abbrev pub pagesJournal : List ℕ → List ℕ → ℕ → ℕ → ℕ → List ℕ → Row
 pagesJournal journal lent n position number bytes = record {
   call = PageJournal journal lent;
-  expected = journalPage (record { answer = record { refusal = n; position = position; written = number }; bytes = bytes });
+  expected = positionedOutput (record { answer = record { refusal = n; position = position; written = number }; bytes = bytes });
 }
 
 -- What the page's program, which lends 1,105 bytes, prints of a journal.
 abbrev pub printsPage : List ℕ → List String → Row
 printsPage journal printed = record { call = PrintPage journal; expected = text (codesOf printed) }
+
+-- The conversion of a journal: the refusal's number, the record's position, the number of bytes written, and all the lent bytes after it.
+abbrev pub converts : Conversion → (journal lent : List ℕ) → ℕ → ℕ → ℕ → List ℕ → Row
+converts conversion journal lent n position number bytes = record {
+  call = Convert conversion journal lent;
+  expected = positionedOutput (record { answer = record { refusal = n; position = position; written = number }; bytes = bytes });
+}
 
 -- A search after some calls on a run: the zone that would send, the set, and the number of the zone that is named, 0 for none.
 abbrev pub names : Run → List SiteCall → ℕ → ℕ → ℕ → Row

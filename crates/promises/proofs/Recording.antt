@@ -1,8 +1,9 @@
--- What the recording call and the page call promise, and the texts of a recording and of a page.
+-- What the recording call and the page call promise, the texts of a recording and of a page, and which conversion an argument names.
 use mathlib.Core.Path.{_≡_}
 use denote.Ref.{now}
 use Rattle.recording.specs.Journal.{recordJournal}
 use Rattle.page.specs.Journal.{pageJournal}
+use Rattle.report.specs.Choice.{chosenBy}
 use Rattle.report.specs.Report.{reportText}
 use Rattle.report.specs.Wall.{wallText}
 use Rattle.text.specs.Text.{Prints}
@@ -33,3 +34,6 @@ page-journal _ = pager.page_journal.Met.met
 pub page-text : Keeps report-part.page_text.ended report-part.page_text.Symbol.routine
     (λ _ journal out r. Prints (wallText (now journal) (now (out .entry))) (now (out .entry)) (now (out .exit)) r)
 page-text _ = report-part.page_text.Met.met
+
+pub chosen : Keeps report-part.chosen.ended report-part.chosen.Symbol.routine (λ _ argument r. r ≡ chosenBy (now argument))
+chosen _ = report-part.chosen.Met.met

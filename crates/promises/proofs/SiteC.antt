@@ -5,7 +5,9 @@ use Rattle.run.specs.declared.SiteCall.the-variants.{Send, Receive, Start, Gate
 use Rattle.rules.specs.declared.Direction.the-variants.{In, Out}
 use Rattle.recording.specs.Journal.{recordJournal}
 use Rattle.page.specs.Journal.{pageJournal}
-use Rattle.site_c.specs.Plain.{answerIn, plainIn, openPlain, callPlain, recordPlain, pagePlain, writePlain, readPlain, recordedPlain, pagedPlain}
+use Rattle.conversion.specs.Call.{convertCall}
+use Rattle.conversion.specs.declared.Conversion.the-variants.{Upgrade, Downgrade}
+use Rattle.site_c.specs.Plain.{answerIn, plainIn, openPlain, callPlain, recordPlain, pagePlain, writePlain, readPlain, recordedPlain, positionedPlain}
 use Rattle.site_c.proofs as part
 use Rattle.promises.specs.Promise.{Keeps}
 
@@ -60,5 +62,13 @@ pub cut-journal-record : Keeps part.cut_journal_record.ended part.cut_journal_re
 cut-journal-record _ = part.cut_journal_record.Met.met
 
 pub cut-journal-page : Keeps part.cut_journal_page.ended part.cut_journal_page.Symbol.routine
-    (λ _ bytes out r. (r ≡ pagedPlain (pageJournal (now bytes) (now (out .entry)) .answer)) × (now (out .exit) ≡ pageJournal (now bytes) (now (out .entry)) .bytes))
+    (λ _ bytes out r. (r ≡ positionedPlain (pageJournal (now bytes) (now (out .entry)) .answer)) × (now (out .exit) ≡ pageJournal (now bytes) (now (out .entry)) .bytes))
 cut-journal-page _ = part.cut_journal_page.Met.met
+
+pub cut-journal-upgrade : Keeps part.cut_journal_upgrade.ended part.cut_journal_upgrade.Symbol.routine
+    (λ _ bytes out r. (r ≡ positionedPlain (convertCall Upgrade (now bytes) (now (out .entry)) .answer)) × (now (out .exit) ≡ convertCall Upgrade (now bytes) (now (out .entry)) .bytes))
+cut-journal-upgrade _ = part.cut_journal_upgrade.Met.met
+
+pub cut-journal-downgrade : Keeps part.cut_journal_downgrade.ended part.cut_journal_downgrade.Symbol.routine
+    (λ _ bytes out r. (r ≡ positionedPlain (convertCall Downgrade (now bytes) (now (out .entry)) .answer)) × (now (out .exit) ≡ convertCall Downgrade (now bytes) (now (out .entry)) .bytes))
+cut-journal-downgrade _ = part.cut_journal_downgrade.Met.met
