@@ -2,7 +2,7 @@
  * painted before, and what is no longer paint was used. What a call is passed and what it answers stands in the caller's frame and is
  * counted. Prints a line a call: its name, the bytes used, and the bytes that the headers say are enough; exits 1 where these are fewer.
  *
- * The frames of the library have fixed sizes, and the run and the zone below lead every call to its innermost function. Each call was made
+ * The frames of the library have fixed sizes, and the runs and the zone below lead every call to its innermost function. Each call was made
  * before it is measured: at the first one of a function the dynamic linker may look for it on the caller's stack. */
 #define _XOPEN_SOURCE 700
 #include <stdio.h>
@@ -21,6 +21,9 @@ static cut_run first, run;
 static cut_zone zone, heard;
 static uint8_t bytes[CUT_JOURNAL_BYTES], out[CUT_RECORDING_BYTES];
 static size_t size;
+/* A journal without gates, of edition 1 and of edition 3. */
+static uint8_t old[CUT_JOURNAL_BYTES], converted[CUT_JOURNAL_BYTES];
+static size_t old_size;
 static uint64_t refusals;
 
 /* The answers are used, so that no call is left out. */
@@ -153,6 +156,16 @@ static OWN void call_journal_page(void)
     told(cut_journal_page(bytes, size, out, sizeof out).refusal);
 }
 
+static OWN void call_journal_upgrade(void)
+{
+    told(cut_journal_upgrade(old, old_size, out, sizeof out).refusal);
+}
+
+static OWN void call_journal_downgrade(void)
+{
+    told(cut_journal_downgrade(converted, old_size, out, sizeof out).refusal);
+}
+
 static const struct {
     const char *name;
     void (*call)(void);
@@ -179,6 +192,8 @@ static const struct {
     {"cut_journal_read", call_journal_read, CUT_JOURNAL_READ_STACK},
     {"cut_journal_record", call_journal_record, CUT_JOURNAL_RECORD_STACK},
     {"cut_journal_page", call_journal_page, CUT_JOURNAL_PAGE_STACK},
+    {"cut_journal_upgrade", call_journal_upgrade, CUT_JOURNAL_CONVERT_STACK},
+    {"cut_journal_downgrade", call_journal_downgrade, CUT_JOURNAL_CONVERT_STACK},
 };
 
 static void (*volatile called)(void);
@@ -215,15 +230,36 @@ static size_t used(void (*call)(void))
     return a > b ? a : b;
 }
 
-/* A run with items on channels, gates, a start and receipts of requests, and records left for one call more. */
-static void prepare(void)
+/* Opens a run and lets its zones send round and receive. */
+static void traffic(cut_run *of, uint8_t edition)
 {
     const uint16_t stocks[] = {1000, 1000, 1000};
-    told(cut_open(&first, 3, 3, stocks, 3));
+    told(cut_open(of, edition, 3, stocks, 3));
     for (int k = 0; k < 490; k++) {
-        told(cut_send(&first, (uint8_t)(k % 3 + 1), (uint8_t)((k + 1) % 3 + 1), 1));
-        told(cut_receive(&first, (uint8_t)(k % 3 + 1), (uint8_t)((k + 1) % 3 + 1)).refusal);
+        told(cut_send(of, (uint8_t)(k % 3 + 1), (uint8_t)((k + 1) % 3 + 1), 1));
+        told(cut_receive(of, (uint8_t)(k % 3 + 1), (uint8_t)((k + 1) % 3 + 1)).refusal);
     }
+}
+
+/* A start and receipts of its requests. */
+static void finish(cut_run *of)
+{
+    told(cut_start(of, 1));
+    told(cut_receive(of, 1, 3).refusal);
+    told(cut_receive(of, 3, 2).refusal);
+}
+
+/* A run with items on channels and gates, and records left for a start, receipts of requests and one call more; and such a journal without
+ * gates. */
+static void prepare(void)
+{
+    traffic(&run, 1);
+    finish(&run);
+    cut_written w = cut_write(&run, old, sizeof old);
+    told(w.refusal);
+    old_size = w.written;
+    told(cut_journal_upgrade(old, old_size, converted, sizeof converted).refusal);
+    traffic(&first, 3);
     told(cut_enter(&first, 2, 1));
     told(cut_leave(&first, 3, 1));
     told(cut_send(&first, 1, 2, 1));
@@ -237,9 +273,7 @@ int main(void)
     size_t none = used(nothing);
     for (size_t k = 0; k < sizeof calls / sizeof calls[0]; k++) {
         if (calls[k].call == call_record) {
-            told(cut_start(&first, 1));
-            told(cut_receive(&first, 1, 3).refusal);
-            told(cut_receive(&first, 3, 2).refusal);
+            finish(&first);
             cut_written w = cut_write(&first, bytes, sizeof bytes);
             told(w.refusal);
             size = w.written;

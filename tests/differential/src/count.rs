@@ -1,8 +1,9 @@
 //! Counts of what was compared, and the floors below which a run of the program fails.
 
 use crate::compare::{Answer, Difference};
+use second::conversion::{Conversion, CONVERSIONS};
 use second::edition::{has_gates, EDITIONS};
-use second::site::PLACES;
+use second::site::{MOST_RECORDS, PLACES};
 
 /// The calls of the library.
 #[derive(Clone, Copy, Debug, PartialEq, Eq)]
@@ -19,6 +20,8 @@ pub enum Entry {
     JournalRead,
     JournalRecord,
     JournalPage,
+    JournalUpgrade,
+    JournalDowngrade,
     ZoneOpen,
     ZoneSend,
     ZoneReceive,
@@ -48,8 +51,12 @@ const fn gate(name: &'static str, known: &'static [u8]) -> Numbers {
 const WRITTEN: &[u8] = &[0, 1, 12, 13, 14];
 const READ_WRITTEN: &[u8] = &[0, 16, 17, 4, 18, 19, 12, 13, 14];
 
+/// The numbers of a conversion of a journal of its own edition, to edition 3 and to edition 1.
+const UPGRADED: &[u8] = &[0, 16, 17, 4, 18, 19, 22, 14];
+const DOWNGRADED: &[u8] = &[0, 16, 17, 4, 18, 19, 22, 23, 14];
+
 /// Each call, in the order of `Entry`.
-pub const ENTRIES: [Numbers; 21] = [
+pub const ENTRIES: [Numbers; 23] = [
     call("cut_site_open", &[0, 2, 3, 4], &[15]),
     call("cut_site_send", &[0, 1, 5, 6, 7, 8], &[1]),
     call("cut_site_receive", &[0, 1, 5, 6, 9, 10], &[1]),
@@ -62,6 +69,8 @@ pub const ENTRIES: [Numbers; 21] = [
     call("cut_journal_read", &[0, 16, 17, 4, 18, 19], &[15]),
     call("cut_journal_record", READ_WRITTEN, &[15]),
     call("cut_journal_page", READ_WRITTEN, &[15]),
+    ("cut_journal_upgrade", [UPGRADED, &[15], &[15], &[15]]),
+    ("cut_journal_downgrade", [&[15], &[15], DOWNGRADED, &[15]]),
     call("cut_zone_open", &[0, 2, 5], &[15]),
     call("cut_zone_send", &[0, 1, 5, 6, 7], &[1]),
     call("cut_zone_receive", &[0, 1, 5, 6, 20], &[1]),
@@ -74,7 +83,7 @@ pub const ENTRIES: [Numbers; 21] = [
 ];
 
 /// The highest number that a call gives.
-const HIGHEST: usize = 21;
+pub const HIGHEST: usize = 23;
 
 /// What is counted apart: each edition that is defined, and everything else.
 pub const HEADINGS: [&str; EDITIONS.len() + 1] = [
@@ -331,6 +340,119 @@ impl Pages {
     }
 }
 
+/// What a journal that was read holds of what a conversion looks at.
+#[derive(Clone, Debug, Default)]
+pub struct Held {
+    /// The number of records.
+    pub records: usize,
+    /// The positions of hand-overs of 0 cars, and how many of these are still on a line.
+    pub no_cars: Vec<usize>,
+    pub waiting: usize,
+    /// The positions of gate records, and how many of these have cars.
+    pub gates: Vec<usize>,
+    pub gates_with_cars: usize,
+    /// Whether the recording was started, and whether it is complete.
+    pub started: bool,
+    pub complete: bool,
+}
+
+/// Says whether there is one position alone, that of the first record; and that of the last one.
+fn is_alone(positions: &[usize], records: usize) -> [bool; 2] {
+    [0, records.wrapping_sub(1)].map(|place| positions == [place])
+}
+
+/// What was met of conversions, each of a journal that was compared. What is an array of two by
+/// conversion has the upgrade first.
+#[derive(Clone, Debug, Default, PartialEq, Eq)]
+pub struct Conversions {
+    /// Accepted ones by conversion: of complete recordings, of incomplete and of unstarted ones.
+    pub accepted: [[u64; 3]; 2],
+    /// Accepted ones with 1,000 records, by conversion.
+    pub longest: [u64; 2],
+    /// Those refused with 22, by conversion: for the first record alone, for the last one alone, and
+    /// for hand-overs none of which was received.
+    pub no_cars: [[u64; 3]; 2],
+    /// Downgrades refused with 22 whose first hand-over of 0 cars stands behind a gate record, and
+    /// before all.
+    pub beside_gates: [u64; 2],
+    /// Downgrades refused with 23: for the first record alone, for the last one alone, and for gates of
+    /// 0 cars alone.
+    pub gates: [u64; 3],
+}
+
+impl Conversions {
+    fn add(&mut self, conversion: Conversion, refusal: u8, held: &Held) {
+        let place = CONVERSIONS.iter().position(|&it| it == conversion);
+        let place = place.expect("there are two conversions");
+        let Held { no_cars, gates, .. } = held;
+        match refusal {
+            0 => {
+                let kind = usize::from(!held.complete) + usize::from(!held.started);
+                self.accepted[place][kind] += 1;
+                self.longest[place] += u64::from(held.records == MOST_RECORDS);
+            }
+            22 => {
+                let [first, last] = is_alone(no_cars, held.records);
+                let kinds = [first, last, held.waiting == no_cars.len()];
+                add_all(&mut self.no_cars[place], kinds);
+                let behind = gates.first() < no_cars.first();
+                let beside = !gates.is_empty();
+                add_all(
+                    &mut self.beside_gates,
+                    [beside && behind, beside && !behind],
+                );
+            }
+            23 => {
+                let [first, last] = is_alone(gates, held.records);
+                add_all(&mut self.gates, [first, last, held.gates_with_cars == 0]);
+            }
+            _ => (),
+        }
+    }
+
+    /// What must have been met, by name, with the times and how often it is needed.
+    fn others(&self) -> Vec<(String, u64, u64)> {
+        let mut others = Vec::new();
+        let mut other = |name: String, times| others.push((name, times, LEAST_CONVERSIONS));
+        for (place, conversion) in CONVERSIONS.iter().enumerate() {
+            let word = conversion.word();
+            for (kind, times) in RECORDINGS.iter().zip(self.accepted[place]) {
+                other(format!("{word} of {kind} recording"), times);
+            }
+            other(format!("{word} of 1,000 records"), self.longest[place]);
+            for (kind, times) in NO_CARS_FOR.iter().zip(self.no_cars[place]) {
+                other(format!("{word} refused with 22 for {kind}"), times);
+            }
+        }
+        for (kind, times) in ["behind", "before"].iter().zip(self.beside_gates) {
+            other(format!("downgrade refused with 22 {kind} a gate"), times);
+        }
+        for (kind, times) in GATES_FOR.iter().zip(self.gates) {
+            other(format!("downgrade refused with 23 for {kind}"), times);
+        }
+        others
+    }
+}
+
+/// Adds one to each count whose kind was met.
+fn add_all<const N: usize>(times: &mut [u64; N], met: [bool; N]) {
+    for (times, met) in times.iter_mut().zip(met) {
+        *times += u64::from(met);
+    }
+}
+
+const RECORDINGS: [&str; 3] = ["a complete", "an incomplete", "an unstarted"];
+const NO_CARS_FOR: [&str; 3] = [
+    "the first record alone",
+    "the last record alone",
+    "hand-overs that are not received",
+];
+const GATES_FOR: [&str; 3] = [
+    "the first record alone",
+    "the last record alone",
+    "gates of 0 cars alone",
+];
+
 /// How often each number of each call must be met under each heading.
 pub const LEAST_ANSWERS: u64 = 100;
 /// How often each kind of hand-over of 0 cars must be taken in each edition.
@@ -344,6 +466,8 @@ pub const LEAST_REMAINING: u64 = 100;
 pub const LEAST_EMPTY: u64 = 100;
 /// How often each of what is counted of pages must be met.
 pub const LEAST_PAGES: u64 = 100;
+/// How often each of what is counted of conversions must be met.
+pub const LEAST_CONVERSIONS: u64 = 100;
 /// How many complete recordings of each edition must have a provisional mark turned firm.
 pub const LEAST_TURNED: u64 = 1_000;
 /// How many complete recordings of each edition must have a line above 16.
@@ -396,6 +520,7 @@ pub struct Counts {
     pub remaining: Remaining,
     pub empty: Empty,
     pub pages: Pages,
+    pub conversions: Conversions,
     /// By edition: complete recordings, each of a list of its own, with a provisional mark turned firm.
     pub turned: [u64; EDITIONS.len()],
     /// By edition: complete recordings, each of a list of its own, with a recorded line above 16.
@@ -542,6 +667,11 @@ impl Counts {
         pages.widest_totals += u64::from(totals.iter().any(|&total| total > 99_999));
     }
 
+    /// Counts a conversion of a journal by its number and by what the journal holds.
+    pub fn conversion(&mut self, conversion: Conversion, refusal: u8, held: &Held) {
+        self.conversions.add(conversion, refusal, held);
+    }
+
     /// The floors that were not reached, each with what was counted.
     pub fn missed(&self) -> Vec<String> {
         let mut missed = Vec::new();
@@ -589,6 +719,7 @@ impl Counts {
         others.extend(self.remaining.others());
         others.extend(self.empty.others());
         others.extend(self.pages.others());
+        others.extend(self.conversions.others());
         others
     }
 

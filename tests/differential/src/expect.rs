@@ -4,6 +4,7 @@ use crate::compare::Output;
 use crate::ffi::{self, PlainAnswer, PlainReading, PlainReceived, PlainRun, PlainWritten};
 use crate::header;
 use crate::plain;
+use second::conversion::{convert, Conversion};
 use second::generate::edition_of;
 use second::print::MOST_BYTES;
 use second::random::Random;
@@ -180,6 +181,19 @@ pub fn of_reading(reading: &journal::Reading, make: fn(Option<&Run>) -> Made) ->
     }
 }
 
+/// What a conversion makes of a journal.
+pub fn conversion(conversion: Conversion, journal: &[u8]) -> Made {
+    let mut lent = vec![0; journal.len()];
+    let answer = convert(conversion, journal, &mut lent);
+    lent.truncate(answer.written);
+    Made {
+        refusal: answer.refusal,
+        position: answer.position,
+        bytes: lent,
+        total: 0,
+    }
+}
+
 pub fn reading(reading: &journal::Reading) -> PlainReading {
     PlainReading {
         refusal: number(reading.refusal),
@@ -207,14 +221,9 @@ impl Made {
         Output { answer, bytes }
     }
 
-    /// Bytes to be lent, filled with a pattern: too few by one, just enough, more, and any number
-    /// up to those.
+    /// Bytes to be lent for what is written.
     pub fn lents(&self, random: &mut Random) -> [Vec<u8>; 4] {
-        let enough = self.bytes.len();
-        let most = if random.chance(10) { 3_000 } else { 60 };
-        let more = enough + random.within(1, most) as usize;
-        let any = random.below(enough + 1);
-        [enough.saturating_sub(1), enough, more, any].map(|length| pattern(random, length))
+        lents(random, self.bytes.len())
     }
 
     /// The same for a page, and none, five more, and as many as are enough for any.
@@ -224,6 +233,15 @@ impl Made {
         lents.extend(lengths.map(|length| pattern(random, length)));
         lents
     }
+}
+
+/// Bytes to be lent, filled with a pattern: too few by one, just enough, more, and any number up to
+/// those.
+pub fn lents(random: &mut Random, enough: usize) -> [Vec<u8>; 4] {
+    let most = if random.chance(10) { 3_000 } else { 60 };
+    let more = enough + random.within(1, most) as usize;
+    let any = random.below(enough + 1);
+    [enough.saturating_sub(1), enough, more, any].map(|length| pattern(random, length))
 }
 
 /// Bytes without a regular repeat of 0, so that a write of any value is seen.

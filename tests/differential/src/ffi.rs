@@ -254,6 +254,18 @@ mod raw {
             out: *mut u8,
             room: usize,
         ) -> PlainWritten;
+        pub fn cut_journal_upgrade(
+            bytes: *const u8,
+            size: usize,
+            out: *mut u8,
+            room: usize,
+        ) -> PlainWritten;
+        pub fn cut_journal_downgrade(
+            bytes: *const u8,
+            size: usize,
+            out: *mut u8,
+            room: usize,
+        ) -> PlainWritten;
     }
 }
 
@@ -373,10 +385,25 @@ pub fn cut_journal_read(bytes: &[u8]) -> PlainReading {
     unsafe { raw::cut_journal_read(bytes.as_ptr(), bytes.len()) }
 }
 
+/// A call that writes what it makes of a journal.
+type JournalWriter = unsafe extern "C" fn(*const u8, usize, *mut u8, usize) -> PlainWritten;
+
+fn write_of(writer: JournalWriter, bytes: &[u8], out: &mut [u8]) -> PlainWritten {
+    unsafe { writer(bytes.as_ptr(), bytes.len(), out.as_mut_ptr(), out.len()) }
+}
+
 pub fn cut_journal_record(bytes: &[u8], out: &mut [u8]) -> PlainWritten {
-    unsafe { raw::cut_journal_record(bytes.as_ptr(), bytes.len(), out.as_mut_ptr(), out.len()) }
+    write_of(raw::cut_journal_record, bytes, out)
 }
 
 pub fn cut_journal_page(bytes: &[u8], out: &mut [u8]) -> PlainWritten {
-    unsafe { raw::cut_journal_page(bytes.as_ptr(), bytes.len(), out.as_mut_ptr(), out.len()) }
+    write_of(raw::cut_journal_page, bytes, out)
+}
+
+pub fn cut_journal_upgrade(bytes: &[u8], out: &mut [u8]) -> PlainWritten {
+    write_of(raw::cut_journal_upgrade, bytes, out)
+}
+
+pub fn cut_journal_downgrade(bytes: &[u8], out: &mut [u8]) -> PlainWritten {
+    write_of(raw::cut_journal_downgrade, bytes, out)
 }

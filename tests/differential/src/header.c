@@ -1,5 +1,5 @@
-/* The calls of c/cut/site.h that are inline functions, and sums over the fields of the headers' structs by their names, so that the headers
- * themselves are compared. */
+/* The calls of c/cut/site.h that are inline functions, the conversions as it declares them, and sums over the fields of the headers' structs by
+ * their names, so that the headers themselves are compared. */
 #include <stddef.h>
 
 /* The header's cut_open calls the function below, which then calls the library's. */
@@ -68,6 +68,16 @@ size_t header_page_bytes(void)
 cut_written header_write(const cut_run *run, uint8_t *out, size_t size)
 {
     return cut_write(run, out, size);
+}
+
+cut_written header_upgrade(const uint8_t *bytes, size_t size, uint8_t *out, size_t room)
+{
+    return cut_journal_upgrade(bytes, size, out, room);
+}
+
+cut_written header_downgrade(const uint8_t *bytes, size_t size, uint8_t *out, size_t room)
+{
+    return cut_journal_downgrade(bytes, size, out, room);
 }
 
 static uint64_t add(uint64_t sum, uint64_t value)

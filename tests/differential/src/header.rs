@@ -1,5 +1,6 @@
 //! The calls of the C headers: the inline functions of c/cut/site.h, which take the parts of a run to
-//! the library and back, and sums over the fields of the structs by the names that C has.
+//! the library and back, the conversions as it declares them, and sums over the fields of the structs
+//! by the names that C has.
 
 use crate::ffi::{
     PlainAnswer, PlainHeadAnswer, PlainOpening, PlainReading, PlainReceived, PlainRun, PlainStep,
@@ -26,6 +27,18 @@ mod raw {
         pub fn header_page(run: *const PlainRun, out: *mut u8, size: usize) -> PlainWritten;
         pub fn header_page_bytes() -> usize;
         pub fn header_write(run: *const PlainRun, out: *mut u8, size: usize) -> PlainWritten;
+        pub fn header_upgrade(
+            bytes: *const u8,
+            size: usize,
+            out: *mut u8,
+            room: usize,
+        ) -> PlainWritten;
+        pub fn header_downgrade(
+            bytes: *const u8,
+            size: usize,
+            out: *mut u8,
+            room: usize,
+        ) -> PlainWritten;
         pub fn header_opening_sum(opening: *const PlainOpening) -> u64;
         pub fn header_step_sum(step: *const PlainStep) -> u64;
         pub fn header_answer_sum(answer: *const PlainAnswer) -> u64;
@@ -82,6 +95,14 @@ pub fn page_bytes() -> usize {
 
 pub fn write(run: &PlainRun, out: &mut [u8]) -> PlainWritten {
     unsafe { raw::header_write(run, out.as_mut_ptr(), out.len()) }
+}
+
+pub fn upgrade(bytes: &[u8], out: &mut [u8]) -> PlainWritten {
+    unsafe { raw::header_upgrade(bytes.as_ptr(), bytes.len(), out.as_mut_ptr(), out.len()) }
+}
+
+pub fn downgrade(bytes: &[u8], out: &mut [u8]) -> PlainWritten {
+    unsafe { raw::header_downgrade(bytes.as_ptr(), bytes.len(), out.as_mut_ptr(), out.len()) }
 }
 
 /// The sum that C makes of a struct's fields by their names.

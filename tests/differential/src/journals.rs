@@ -1,5 +1,7 @@
-//! Random and damaged journals: reading, and the recording and the page of what was read.
+//! Random and damaged journals: reading, the recording and the page of what was read, and the
+//! conversions.
 
+use crate::conversions;
 use crate::count::{Counts, Failure, Found};
 use crate::expect::{self, Made, Writings};
 use crate::pair;
@@ -48,7 +50,8 @@ pub fn trial(counts: &mut Counts, random: &mut Random, index: usize) -> Result<(
     Ok(())
 }
 
-fn check(counts: &mut Counts, random: &mut Random, bytes: &[u8]) -> Result<(), Failure> {
+/// Compares all that is made of a journal.
+pub fn check(counts: &mut Counts, random: &mut Random, bytes: &[u8]) -> Result<(), Failure> {
     let call = || format!("the reader on the journal {}", text::bytes(bytes));
     let compared = read(counts, random, bytes);
     compared.map_err(|found| Failure::new(String::new(), call(), found))
@@ -73,6 +76,7 @@ fn read(counts: &mut Counts, random: &mut Random, bytes: &[u8]) -> Result<(), Fo
         },
     };
     pair::journal_writers(counts, random, bytes, &writings)?;
+    conversions::both(counts, random, bytes, &reading)?;
     if reading.refusal == 0 {
         pair::writers(counts, random, &proved.run, &writings)?;
     }

@@ -3,6 +3,7 @@
 
 pub mod calls;
 pub mod compare;
+pub mod conversions;
 pub mod count;
 pub mod expect;
 pub mod ffi;

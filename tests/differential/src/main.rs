@@ -4,7 +4,7 @@
 //! `--soak SECONDS` makes whole rounds with the seeds that follow for so long.
 
 use differential::count::{Counts, Failure};
-use differential::{calls, journals, states, zones};
+use differential::{calls, conversions, journals, states, zones};
 use second::random::Random;
 use std::time::{Duration, Instant};
 
@@ -13,12 +13,13 @@ const SEED: u64 = 2_026;
 type Trial = fn(&mut Counts, &mut Random, usize) -> Result<(), Failure>;
 
 /// The kinds of trials with their numbers in one round.
-const KINDS: [(&str, usize, Trial); 5] = [
+const KINDS: [(&str, usize, Trial); 6] = [
     ("every zone argument and edition, and the limits", 1, every),
     ("zones", 20_000, zones::trial),
     ("lists of calls", 15_000, calls::trial),
     ("journals", 6_000, journals::trial),
     ("run states", 4_000, states::trial),
+    ("conversions", 6_000, conversions::trial),
 ];
 
 fn every(counts: &mut Counts, random: &mut Random, _: usize) -> Result<(), Failure> {

@@ -187,7 +187,7 @@ pub fn call(
 
 /// A call that writes what it makes of a run into lent bytes, and the same of a journal.
 type Writer = fn(&PlainRun, &mut [u8]) -> PlainWritten;
-type JournalWriter = fn(&[u8], &mut [u8]) -> PlainWritten;
+pub type JournalWriter = fn(&[u8], &mut [u8]) -> PlainWritten;
 
 /// The bytes that are lent to a call, of several lengths.
 fn lents(random: &mut Random, entry: Entry, made: &Made) -> Vec<Vec<u8>> {

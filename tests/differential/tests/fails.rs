@@ -1,17 +1,20 @@
 //! The comparison can fail: every kind of wrong answer is reported, and so is a missed floor.
 
 use differential::compare::{Answer, Output};
+use differential::conversions;
 use differential::count::{
-    Check, Counts, Empty, Entry, Gate, Gates, Pages, Remaining, CHECKS, EMPTY, ENTRIES, GATES,
-    HEADINGS, LEAST_ABOVE, LEAST_ANSWERS, LEAST_CHECKS, LEAST_EMPTY, LEAST_GATES, LEAST_PAGES,
-    LEAST_REMAINING, LEAST_TURNED, WRONG_WAYS,
+    Check, Conversions, Counts, Empty, Entry, Gate, Gates, Pages, Remaining, CHECKS, EMPTY,
+    ENTRIES, GATES, HEADINGS, HIGHEST, LEAST_ABOVE, LEAST_ANSWERS, LEAST_CHECKS, LEAST_CONVERSIONS,
+    LEAST_EMPTY, LEAST_GATES, LEAST_PAGES, LEAST_REMAINING, LEAST_TURNED, WRONG_WAYS,
 };
 use differential::expect::{self, Made, Writings};
 use differential::ffi::{self, PlainAnswer, PlainReading, PlainRun, PlainStep, PlainWritten};
 use differential::pair;
 use differential::plain::place;
+use second::archive::REFUSED;
+use second::conversion::Conversion::{Downgrade, Upgrade};
 use second::edition::EDITIONS;
-use second::generate::{bytes_of, case_b, with_edition, WAITING, WAITING_REFUSED};
+use second::generate::{bytes_of, case_b, with_edition, CASE_A, WAITING, WAITING_REFUSED};
 use second::journal;
 use second::limits;
 use second::random::Random;
@@ -102,20 +105,25 @@ fn a_wrong_answer_of_the_reader_is_found() {
     assert_eq!(changed, "run.zones[1].stock");
 }
 
-/// The recording of case B, and its page, each with some more bytes lent.
-fn written() -> [(Made, Output); 2] {
+/// The recording of case B, its page and its conversions, each with some more bytes lent.
+fn written() -> [(Made, Output); 4] {
     let journal = bytes_of(&case_b());
+    let upgraded = with_edition(3, &journal);
     let Writings {
         recording, page, ..
     } = Writings::of(Some(&case_b()));
+    let upgrade = expect::conversion(Upgrade, &journal);
+    let downgrade = expect::conversion(Downgrade, &upgraded);
     type Call = fn(&[u8], &mut [u8]) -> PlainWritten;
-    let calls: [(Made, Call); 2] = [
-        (recording, ffi::cut_journal_record),
-        (page, ffi::cut_journal_page),
+    let calls: [(Made, Call, &[u8]); 4] = [
+        (recording, ffi::cut_journal_record, &journal),
+        (page, ffi::cut_journal_page, &journal),
+        (upgrade, ffi::cut_journal_upgrade, &journal),
+        (downgrade, ffi::cut_journal_downgrade, &upgraded),
     ];
-    calls.map(|(made, call)| {
+    calls.map(|(made, call, journal)| {
         let lent = vec![7; made.bytes.len() + 5];
-        let output = expect::written(&lent, |out| call(&journal, out));
+        let output = expect::written(&lent, |out| call(journal, out));
         assert_eq!(made.output(&lent).check(&output), Ok(()));
         (made, output)
     })
@@ -179,6 +187,128 @@ fn a_page_against_a_wrong_expectation_fails() {
             compared(&wrong),
             names.map(|name| Err((name, field.to_string())))
         );
+    }
+}
+
+/// A whole comparison of a conversion fails when anything else is expected of it, where it is accepted
+/// and where it is refused.
+#[test]
+fn a_conversion_against_a_wrong_expectation_fails() {
+    let (mut counts, mut random) = (Counts::default(), Random::new(1));
+    let mut compared = |conversion, journal: &[u8], made: &Made| {
+        let compared = conversions::compare(&mut counts, &mut random, conversion, journal, made);
+        compared.map_err(|found| (found.name, found.difference.field))
+    };
+    type Change = fn(&mut Made);
+    let changes: [(Change, &str); 5] = [
+        (|made| made.bytes[0] ^= 0x20, "bytes[0]"),
+        (|made| made.bytes.truncate(10), "refusal"),
+        (|made| made.refusal = 22, "refusal"),
+        (|made| made.total = 60, "total"),
+        (|made| made.position = 1, "position"),
+    ];
+    let upgraded = with_edition(3, &CASE_A);
+    for (conversion, journal, name) in [
+        (Upgrade, &CASE_A[..], "cut_journal_upgrade"),
+        (Downgrade, &upgraded, "cut_journal_downgrade"),
+    ] {
+        let right = expect::conversion(conversion, journal);
+        assert_eq!(compared(conversion, journal, &right), Ok(()));
+        for (change, field) in changes {
+            let mut wrong = right.clone();
+            change(&mut wrong);
+            let found = compared(conversion, journal, &wrong);
+            assert_eq!(found, Err((name, field.to_string())));
+        }
+    }
+    for (conversion, journal, refusal, position) in REFUSED {
+        let mut wrong = expect::conversion(conversion, journal);
+        assert_eq!((wrong.refusal, wrong.position), (refusal, position));
+        assert_eq!(compared(conversion, journal, &wrong), Ok(()));
+        wrong.position += 1;
+        assert!(compared(conversion, journal, &wrong).is_err());
+        wrong.position -= 1;
+        wrong.refusal = if refusal == 22 { 23 } else { 22 };
+        assert!(compared(conversion, journal, &wrong).is_err());
+    }
+}
+
+/// What a journal and its conversion say is compared too: a library that changes more or less than the
+/// edition is found.
+#[test]
+fn a_conversion_that_says_something_else_is_found() {
+    fn changed(journal: &[u8], out: &mut [u8], change: fn(&mut [u8])) -> PlainWritten {
+        let answer = ffi::cut_journal_upgrade(journal, out);
+        change(out);
+        answer
+    }
+    let mut counts = Counts::default();
+    let mut found = |library| {
+        let compared = conversions::alike(&mut counts, Upgrade, &CASE_A, library);
+        compared.map_err(|found| (found.name, found.difference.field))
+    };
+    assert_eq!(found(ffi::cut_journal_upgrade), Ok(()));
+    let read = |field: &str| Err(("cut_journal_read", field.to_string()));
+    let kept = |journal: &[u8], out: &mut [u8]| changed(journal, out, |out| out[0] = 0x28);
+    assert_eq!(found(kept), read("run.edition"));
+    let next = |journal: &[u8], out: &mut [u8]| changed(journal, out, |out| out[0] = 0x48);
+    assert_eq!(found(next), read("run.edition"));
+    let stock = |journal: &[u8], out: &mut [u8]| changed(journal, out, |out| out[3] = 11);
+    assert_eq!(found(stock), read("run.zones[0].stock"));
+    let cars = |journal: &[u8], out: &mut [u8]| changed(journal, out, |out| out[9] = 5);
+    assert_eq!(found(cars), read("run.zones[0].stock"));
+    let refused = |journal: &[u8], out: &mut [u8]| changed(journal, out, |out| out[1] = 8);
+    assert_eq!(found(refused), read("refusal"));
+}
+
+/// What is counted of both conversions of a journal.
+fn counted(journal: &[u8]) -> Conversions {
+    let (mut counts, mut random) = (Counts::default(), Random::new(1));
+    let reading = journal::read(journal);
+    let compared = conversions::both(&mut counts, &mut random, journal, &reading);
+    compared.expect("both agree");
+    counts.conversions
+}
+
+#[test]
+fn accepted_conversions_are_counted() {
+    let mut expected = Conversions::default();
+    expected.accepted[0] = [1, 0, 0];
+    assert_eq!(counted(&CASE_A), expected);
+    expected.accepted = [[0; 3], [0, 0, 1]];
+    assert_eq!(counted(&[0x64, 1, 0, 5, 0, 7, 0x01, 2]), expected);
+    expected.accepted[1] = [0, 1, 0];
+    let incomplete = [0x64, 3, 0, 5, 0, 7, 0x01, 2, 0x41, 0, 0x88, 0];
+    assert_eq!(counted(&incomplete), expected);
+    expected.accepted = [[1, 0, 0], [0; 3]];
+    expected.longest = [1, 0];
+    assert_eq!(counted(&bytes_of(&limits::longest())), expected);
+}
+
+/// By what the journal holds: the worked ones, from the first that meets 22 on.
+#[test]
+fn refused_conversions_are_counted() {
+    let refused = |place: usize| REFUSED[place].1;
+    assert_eq!(counted(refused(0)), Conversions::default());
+    let mut expected = Conversions::default();
+    expected.no_cars[0] = [1, 0, 0];
+    assert_eq!(counted(refused(3)), expected);
+    expected.no_cars[0] = [0, 1, 1];
+    assert_eq!(counted(refused(4)), expected);
+    expected.no_cars = [[0; 3], [1, 1, 1]];
+    assert_eq!(counted(refused(5)), expected);
+    expected.no_cars[1] = [0, 1, 1];
+    expected.beside_gates = [1, 0];
+    assert_eq!(counted(refused(6)), expected);
+    expected.no_cars[1] = [1, 0, 1];
+    expected.beside_gates = [0, 1];
+    assert_eq!(counted(refused(7)), expected);
+    for (place, gates) in [(8, [1, 0, 0]), (9, [0, 1, 1])] {
+        let expected = Conversions {
+            gates,
+            ..Conversions::default()
+        };
+        assert_eq!(counted(refused(place)), expected);
     }
 }
 
@@ -473,12 +603,30 @@ fn a_number_outside_the_list_of_a_call_is_found() {
     // An edition without gates gives 15 before 5.
     assert!(counts.same(Entry::SiteEnter, 3, &answer, &answer).is_ok());
     assert!(counts.same(Entry::SiteEnter, 2, &answer, &answer).is_err());
+    // 23 is a downgrade's alone, and another edition than its own meets 15 alone.
+    let answer = PlainAnswer {
+        refusal: 23,
+        ..answer
+    };
+    let mut is_given =
+        |entry: Entry, edition: u32| counts.same(entry, edition, &answer, &answer).is_ok();
+    assert!(is_given(Entry::JournalDowngrade, 3));
+    assert!(!is_given(Entry::JournalDowngrade, 1));
+    assert!(!is_given(Entry::JournalUpgrade, 1));
 }
+
+const ENOUGH_CONVERSIONS: Conversions = Conversions {
+    accepted: [[LEAST_CONVERSIONS; 3]; 2],
+    longest: [LEAST_CONVERSIONS; 2],
+    no_cars: [[LEAST_CONVERSIONS; 3]; 2],
+    beside_gates: [LEAST_CONVERSIONS; 2],
+    gates: [LEAST_CONVERSIONS; 3],
+};
 
 /// Counts that just reach every floor.
 fn enough() -> Counts {
     Counts {
-        times: [[[LEAST_ANSWERS; 22]; ENTRIES.len()]; HEADINGS.len()],
+        times: [[[LEAST_ANSWERS; HIGHEST + 1]; ENTRIES.len()]; HEADINGS.len()],
         checks: [[LEAST_CHECKS; CHECKS]; 3],
         gates: Gates {
             accepted: [LEAST_GATES; GATES],
@@ -499,7 +647,7 @@ fn enough() -> Counts {
             refused: LEAST_REMAINING,
         },
         empty: Empty {
-            times: [[LEAST_EMPTY; 22]; HEADINGS.len()],
+            times: [[LEAST_EMPTY; HIGHEST + 1]; HEADINGS.len()],
             zeros: [LEAST_EMPTY; 3],
             complete: [LEAST_EMPTY; 3],
         },
@@ -510,6 +658,7 @@ fn enough() -> Counts {
             high_totals: LEAST_PAGES,
             widest_totals: LEAST_PAGES,
         },
+        conversions: ENOUGH_CONVERSIONS,
         turned: [LEAST_TURNED; 3],
         above: [LEAST_ABOVE; 3],
         comparisons: 0,
@@ -525,10 +674,11 @@ fn the_floors_are_those_of_all_that_is_counted() {
     let remaining = editions * PLACES + 6;
     let empty = EMPTY.iter().map(|numbers| numbers.len()).sum::<usize>() + editions * 2;
     let pages = 5;
+    let conversions = 2 * (3 + 1 + 3) + 2 + 3;
     let missed = Counts::default().missed().len();
     assert_eq!(
         missed,
-        numbers + editions * (CHECKS + 2) + gates + remaining + empty + pages
+        numbers + editions * (CHECKS + 2) + gates + remaining + empty + pages + conversions
     );
     assert_eq!(enough().missed(), Vec::<String>::new());
 }
@@ -619,6 +769,30 @@ fn a_missed_floor_of_pages_is_reported() {
     assert!(total.contains("pages with a total above 65,535: 99 times"));
     let total = missed(|counts| counts.pages.widest_totals -= 1);
     assert!(total.contains("pages with a total of six digits: 99 times"));
+}
+
+#[test]
+fn a_missed_floor_of_conversions_is_reported() {
+    let number = missed(|counts| counts.times[0][Entry::JournalUpgrade as usize][22] -= 1);
+    assert!(number.contains("cut_journal_upgrade answering 22, edition 1: 99 times"));
+    let number = missed(|counts| counts.times[2][Entry::JournalUpgrade as usize][15] -= 1);
+    assert!(number.contains("cut_journal_upgrade answering 15, edition 3: 99 times"));
+    let number = missed(|counts| counts.times[2][Entry::JournalDowngrade as usize][23] -= 1);
+    assert!(number.contains("cut_journal_downgrade answering 23, edition 3: 99 times"));
+    let number = missed(|counts| counts.times[2][Entry::JournalDowngrade as usize][14] -= 1);
+    assert!(number.contains("cut_journal_downgrade answering 14, edition 3: 99 times"));
+    let unstarted = missed(|counts| counts.conversions.accepted[0][2] -= 1);
+    assert!(unstarted.contains("upgrade of an unstarted recording: 99 times"));
+    let longest = missed(|counts| counts.conversions.longest[1] -= 1);
+    assert!(longest.contains("downgrade of 1,000 records: 99 times"));
+    let last = missed(|counts| counts.conversions.no_cars[0][1] -= 1);
+    assert!(last.contains("upgrade refused with 22 for the last record alone: 99 times"));
+    let waiting = missed(|counts| counts.conversions.no_cars[1][2] -= 1);
+    assert!(waiting.contains("downgrade refused with 22 for hand-overs that are not received"));
+    let behind = missed(|counts| counts.conversions.beside_gates[0] -= 1);
+    assert!(behind.contains("downgrade refused with 22 behind a gate: 99 times"));
+    let no_cars = missed(|counts| counts.conversions.gates[2] -= 1);
+    assert!(no_cars.contains("downgrade refused with 23 for gates of 0 cars alone: 99 times"));
 }
 
 /// An opening is counted where it was given no stocks, or zeros that are refused with 3.

@@ -1,8 +1,10 @@
 //! Journals for comparing two implementations: true ones of many shapes, and damaged ones.
 
+use crate::archive;
 use crate::demand3;
 use crate::edition::{fewest, has_gates};
 use crate::journal::{self, encode};
+use crate::limits;
 use crate::print;
 use crate::random::{cars, direction, finish, stocks_from, Habits, Random};
 use crate::site::{Call, Direction, Item, Run, MOST_RECORDS, PLACES};
@@ -833,21 +835,31 @@ pub fn journal_of(random: &mut Random, edition: u32, kind: usize) -> Vec<u8> {
 }
 
 /// How many journals there are for crates/cases.
-pub const STORED: usize = 720;
+pub const STORED: usize = BEFORE_CONVERSIONS + 132;
 
-/// How many of them there were before gates.
+/// How many of them there were before gates, and before conversions.
 const BEFORE_GATES: usize = 400;
+const BEFORE_CONVERSIONS: usize = 720;
 
 /// Gives a number of journals that depends on the seed alone: those that there were before gates, of
-/// editions 1 and 2, and behind them those with edition 3.
+/// editions 1 and 2, behind them those with edition 3, and then those for the converter.
 pub fn journals(seed: u64, number: usize) -> Vec<Vec<u8>> {
     let mut random = Random::new(seed);
     let mut journals = before_gates(&mut random);
     journals.extend(worked_with_gates());
     let turns = turns();
-    for index in 0..number.saturating_sub(journals.len()) {
+    for index in 0..BEFORE_CONVERSIONS - journals.len() {
         let (edition, kind) = turns[index % turns.len()];
         journals.push(journal_of(&mut random, edition, kind));
+    }
+    journals.extend(archive::REFUSED.map(|(_, journal, ..)| journal.to_vec()));
+    let longest = bytes_of(&limits::longest());
+    journals.extend([1, 3].map(|edition| with_edition(edition, &longest)));
+    for index in 0..number.saturating_sub(journals.len()) {
+        let (round, kind) = (index / archive::KINDS, index % archive::KINDS);
+        // Each time round every kind has the other edition.
+        let edition = [1, 3][(round + kind) % 2];
+        journals.push(archive::journal_of(&mut random, edition, kind));
     }
     journals.truncate(number);
     journals

@@ -5,6 +5,8 @@
 //! refusal numbers are those of docs/RULES.md, section 7, zones are named from 1, and a set of zones
 //! is a byte whose lowest bit stands for zone 1.
 
+pub mod archive;
+pub mod conversion;
 pub mod demand3;
 pub mod edition;
 pub mod generate;

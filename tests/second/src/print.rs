@@ -1,9 +1,10 @@
 //! The texts that the programs print for a journal.
 
+use crate::conversion::{convert, Conversion, CONVERSIONS};
 use crate::site::Run;
 use crate::{journal, page, recording};
 
-/// More bytes than any recording or page has.
+/// More bytes than any recording, page or accepted journal has.
 pub const MOST_BYTES: usize = 2 + 4 * 8 + 2 * 1_023;
 
 /// Bytes as two upper-case digits each, with single spaces and a line feed.
@@ -27,7 +28,26 @@ pub fn page(bytes: &[u8]) -> String {
     printed(bytes, page::write).map_or_else(refused, text)
 }
 
-fn refused(refusal: u32) -> String {
+/// The printed answer of a conversion that is lent so many bytes: the converted journal in the form of
+/// a recording, or the refusal.
+pub fn conversion(conversion: Conversion, bytes: &[u8], lent: usize) -> String {
+    let mut lent = vec![0; lent];
+    let answer = convert(conversion, bytes, &mut lent);
+    match answer.refusal {
+        0 => digits(&lent[..answer.written]),
+        refusal => refused(refusal),
+    }
+}
+
+/// The texts of a journal as crates/cases prints them: its line, its page, and both conversions, lent
+/// enough bytes.
+pub fn all(bytes: &[u8]) -> String {
+    let converted = CONVERSIONS.map(|way| conversion(way, bytes, bytes.len()));
+    line(bytes) + &page(bytes) + &converted.concat()
+}
+
+/// The printed line of a refusal.
+pub fn refused(refusal: u32) -> String {
     format!("refused {refusal}\n")
 }
 

@@ -2,16 +2,18 @@
 //!
 //! The checker of demand 3 has to find every one of them that it can see; the others show in the
 //! numbers of the calls, in the journal or on the page. The engine without a fault has to agree
-//! with the site engine.
+//! with the site engine. The faults of a converter are in a small converter, at the end.
 
+use second::archive;
+use second::conversion::{convert, Conversion, Converted, CONVERSIONS};
 use second::demand3::{check, compare, look, Account, Event, Finding, Lines, Seen};
-use second::edition::EDITIONS;
-use second::generate::bytes_of;
-use second::journal;
+use second::edition::{is_known, EDITIONS};
+use second::generate::{bytes_of, edition_of, journal_of, with_edition, KINDS};
+use second::journal::{self, Reading};
 use second::page;
 use second::random::{drive, stocks, Random};
-use second::site::{Call, Direction, Run};
-use std::collections::{BTreeMap, VecDeque};
+use second::site::{self, Call, Direction, Run};
+use std::collections::{BTreeMap, BTreeSet, VecDeque};
 
 #[derive(Clone, Copy, Debug, PartialEq, Eq)]
 enum Fault {
@@ -1012,4 +1014,322 @@ fn lines_that_are_left_out_for_their_cars_are_caught() {
 #[test]
 fn the_present_total_on_the_page_is_caught() {
     must_show(Fault::PresentTotal, &[3]);
+}
+
+/// The faults of a converter.
+#[derive(Clone, Copy, Debug, PartialEq, Eq)]
+enum Slip {
+    None,
+    /// 15 lets every edition through that reading knows.
+    AnyEdition,
+    /// 15 is asked once the journal is read.
+    EditionLater,
+    /// The ways are swapped.
+    Swapped,
+    /// 22 is asked on the way to edition 1 alone, and to edition 3 alone.
+    EmptyUp,
+    EmptyDown,
+    /// 22 asks for hand-overs of 0 cars that were received.
+    ReceivedAlone,
+    /// 22 asks for gates of 0 cars too, and for any record of 0 cars.
+    EmptyGate,
+    EmptyRecord,
+    /// 22 and 23 look at the opening stocks too.
+    OpeningToo,
+    /// 22 and 23 do not look at the first record, and at the last one.
+    NotTheFirst,
+    NotTheLast,
+    /// 23 is asked before 22.
+    GatesFirst,
+    /// Whichever of both records comes first gives the number.
+    FirstRecord,
+    /// Gate records come into edition 1.
+    GatesPass,
+    /// They are left out on the way.
+    GatesLeftOut,
+    /// 23 asks for gates with cars.
+    GatesWithCars,
+    /// 22 and 23 tell the position of the record.
+    TellsPosition,
+    /// 18 and 19 do not.
+    NoPosition,
+    /// The recording must be complete.
+    CompleteAlone,
+    /// 14 is asked first, and before 22.
+    BytesFirst,
+    BytesEarlier,
+    /// 14 asks for the bytes of the longest journal.
+    LongestAsked,
+    /// The bytes are written before there is an answer.
+    WritesFirst,
+    /// Zeros stand behind the journal.
+    ZerosBehind,
+    /// The number written is that of the lent bytes.
+    CountsLent,
+    /// The edition takes the whole first byte, or four bits of it.
+    WholeByte,
+    FourBits,
+    /// The edition stays, or is the next one.
+    KeepsEdition,
+    NextEdition,
+}
+
+/// A journal with its reading.
+struct Archived {
+    bytes: Vec<u8>,
+    reading: Reading,
+}
+
+impl Archived {
+    fn new(bytes: Vec<u8>) -> Archived {
+        let reading = journal::read(&bytes);
+        Archived { bytes, reading }
+    }
+
+    /// The hand-overs of 0 cars that are still on a line.
+    fn waiting(&self) -> usize {
+        let items = self.reading.run.lines.iter().flatten().flatten();
+        let is_empty = |item: &&site::Item| matches!(item, site::Item::HandOver { cars: 0, .. });
+        items.filter(is_empty).count()
+    }
+
+    /// The positions of the records that 22 refuses, and of those that 23 does.
+    fn refused(&self, slip: Slip) -> (Vec<usize>, Vec<usize>) {
+        let run = &self.reading.run;
+        let mut words = run.records.clone();
+        if slip == Slip::OpeningToo {
+            words.splice(0..0, run.opening[..run.size()].to_vec());
+        }
+        let looked_at = match slip {
+            Slip::NotTheFirst => 1..words.len(),
+            Slip::NotTheLast => 0..words.len().saturating_sub(1),
+            _ => 0..words.len(),
+        };
+        let places = |holds: &dyn Fn(u16) -> bool| -> Vec<usize> {
+            let looked_at = looked_at.clone();
+            looked_at.filter(|&place| holds(words[place])).collect()
+        };
+        let mut empty = places(&|word| {
+            let kind = match slip {
+                Slip::EmptyGate => word >> 14 == 0 || word >> 14 == 3,
+                Slip::EmptyRecord => true,
+                _ => word >> 14 == 0,
+            };
+            kind && word & 255 == 0
+        });
+        if slip == Slip::ReceivedAlone && empty.len() == self.waiting() {
+            empty.clear();
+        }
+        let with_cars = slip == Slip::GatesWithCars;
+        let gates = places(&|word| word >> 14 == 3 && !(with_cars && word & 255 == 0));
+        (empty, gates)
+    }
+
+    /// The questions in order: whether each says no, its number and the position that it adds.
+    fn questions(&self, slip: Slip, way: Conversion, lent: usize) -> Vec<(bool, u32, usize)> {
+        let edition = edition_of(&self.bytes);
+        let is_source = match slip {
+            Slip::AnyEdition => is_known(edition),
+            _ => edition == way.source(),
+        };
+        let passes = match way {
+            Conversion::Upgrade => slip == Slip::EmptyUp,
+            Conversion::Downgrade => slip == Slip::EmptyDown,
+        };
+        let (mut empty, mut gates) = self.refused(slip);
+        if passes {
+            empty.clear();
+        }
+        if way.target() != 1 || slip == Slip::GatesPass || slip == Slip::GatesLeftOut {
+            gates.clear();
+        }
+        let told = |places: &[usize]| match slip {
+            Slip::TellsPosition => places.first().copied().unwrap_or(0),
+            _ => 0,
+        };
+        let needed = match slip {
+            Slip::LongestAsked => 2_018,
+            _ => self.bytes.len(),
+        };
+        let Reading {
+            refusal, position, ..
+        } = self.reading;
+        let mut questions = vec![
+            (self.bytes.len() < 2 || !is_source, 15, 0),
+            (refusal != 0, refusal, position),
+            (!empty.is_empty(), 22, told(&empty)),
+            (!gates.is_empty(), 23, told(&gates)),
+            (lent < needed, 14, 0),
+        ];
+        self.rearrange(slip, &mut questions, empty < gates);
+        questions
+    }
+
+    /// Puts the questions into a wrong order, or changes what they are.
+    fn rearrange(&self, slip: Slip, questions: &mut Vec<(bool, u32, usize)>, empty_first: bool) {
+        let run = &self.reading.run;
+        match slip {
+            Slip::EditionLater => questions.swap(0, 1),
+            Slip::GatesFirst => questions.swap(2, 3),
+            Slip::FirstRecord if !empty_first => questions.swap(2, 3),
+            Slip::NoPosition => questions[1].2 = 0,
+            Slip::CompleteAlone => {
+                questions.insert(2, (run.holds_request(), 13, 0));
+                questions.insert(2, (!run.started(), 12, 0));
+            }
+            Slip::BytesFirst => questions.rotate_right(1),
+            Slip::BytesEarlier => questions[2..].rotate_right(1),
+            _ => (),
+        }
+    }
+
+    /// The converted bytes.
+    fn converted(&self, slip: Slip, way: Conversion) -> Vec<u8> {
+        let target = match slip {
+            Slip::KeepsEdition => way.source(),
+            Slip::NextEdition => 2,
+            _ => way.target(),
+        };
+        let mut bytes = with_edition(target, &self.bytes);
+        match slip {
+            Slip::WholeByte => bytes[0] &= 0xE0,
+            Slip::FourBits => bytes[0] &= 0xEF,
+            Slip::GatesLeftOut => {
+                let mut run = self.reading.run.clone();
+                run.records.retain(|word| word >> 14 != 3);
+                let header = journal::header(target, run.count, run.records.len());
+                let words = [
+                    vec![header],
+                    run.opening[..run.size()].to_vec(),
+                    run.records,
+                ];
+                bytes = journal::bytes_of(&words.concat());
+            }
+            _ => (),
+        }
+        bytes
+    }
+
+    fn convert(&self, slip: Slip, way: Conversion, lent: &mut [u8]) -> Converted {
+        let way = if slip == Slip::Swapped {
+            way.back()
+        } else {
+            way
+        };
+        let mut questions = self.questions(slip, way, lent.len()).into_iter();
+        let no = questions.find(|&(says_no, ..)| says_no);
+        let fits = !self.bytes.is_empty() && self.bytes.len() <= lent.len();
+        if no.is_none() || slip == Slip::WritesFirst && fits {
+            let bytes = self.converted(slip, way);
+            lent[..bytes.len()].copy_from_slice(&bytes);
+            if slip == Slip::ZerosBehind {
+                lent[bytes.len()..].fill(0);
+            }
+        }
+        let (_, refusal, position) = no.unwrap_or((false, 0, 0));
+        let written = match (refusal, slip) {
+            (0, Slip::CountsLent) => lent.len(),
+            (0, Slip::GatesLeftOut) => self.converted(slip, way).len(),
+            (0, _) => self.bytes.len(),
+            _ => 0,
+        };
+        Converted {
+            refusal,
+            position,
+            written,
+        }
+    }
+}
+
+/// Journals for the converter and others of every kind, in every edition.
+fn archived() -> Vec<Archived> {
+    let mut random = Random::new(22);
+    let mut journals = Vec::new();
+    for index in 0..600 {
+        let edition = EDITIONS[index % EDITIONS.len()];
+        let kind = index % archive::KINDS;
+        journals.push(match edition {
+            2 => journal_of(&mut random, edition, index % KINDS),
+            _ => archive::journal_of(&mut random, edition, kind),
+        });
+    }
+    for index in 0..2 * KINDS {
+        journals.push(journal_of(&mut random, [1, 3][index % 2], index / 2));
+    }
+    journals.into_iter().map(Archived::new).collect()
+}
+
+/// How often a converter with a slip answers something else than the right one, by both numbers: with
+/// one byte too few, just enough and some more.
+fn slips(journals: &[Archived], slip: Slip) -> BTreeMap<(u32, u32), u32> {
+    let mut others = BTreeMap::new();
+    for journal in journals {
+        let needed = journal.bytes.len();
+        for way in CONVERSIONS {
+            for length in [needed.saturating_sub(1), needed, needed + 5] {
+                let (mut right, mut wrong) = (vec![0xEE; length], vec![0xEE; length]);
+                let expected = convert(way, &journal.bytes, &mut right);
+                let answer = journal.convert(slip, way, &mut wrong);
+                if answer != expected || right != wrong {
+                    let numbers = (expected.refusal, answer.refusal);
+                    *others.entry(numbers).or_insert(0) += 1;
+                }
+            }
+        }
+    }
+    println!("{slip:?}: {others:?}");
+    others
+}
+
+/// What a conversion refuses with, lent enough bytes, and what reading refuses with behind 15.
+const REFUSED: &[u32] = &[4, 15, 16, 17, 18, 19, 22, 23];
+const READ: &[u32] = &[4, 16, 17, 18, 19];
+const ANY: &[u32] = &[0, 4, 14, 15, 16, 17, 18, 19, 22, 23];
+
+/// Every slip with the numbers of the right converter at which it shows, and those that it gives there.
+const SLIPS: [(Slip, &[u32], &[u32]); 30] = [
+    (Slip::None, &[], &[]),
+    (Slip::AnyEdition, &[15], &[0, 4, 14, 16, 17, 18, 19, 22]),
+    (Slip::EditionLater, &[15], READ),
+    (Slip::Swapped, ANY, ANY),
+    (Slip::EmptyUp, &[22], &[0, 14]),
+    (Slip::EmptyDown, &[22], &[0, 14, 23]),
+    (Slip::ReceivedAlone, &[22], &[0, 14, 23]),
+    (Slip::EmptyGate, &[23], &[22]),
+    (Slip::EmptyRecord, &[0, 14, 23], &[22]),
+    (Slip::OpeningToo, &[0, 14, 23], &[22, 23]),
+    (Slip::NotTheFirst, &[22, 23], &[0, 14, 23]),
+    (Slip::NotTheLast, &[22, 23], &[0, 14, 23]),
+    (Slip::GatesFirst, &[22], &[23]),
+    (Slip::FirstRecord, &[22], &[23]),
+    (Slip::GatesPass, &[23], &[0, 14]),
+    (Slip::GatesLeftOut, &[23], &[0, 14]),
+    (Slip::GatesWithCars, &[23], &[0, 14]),
+    (Slip::TellsPosition, &[22, 23], &[22, 23]),
+    (Slip::NoPosition, &[18, 19], &[18, 19]),
+    (Slip::CompleteAlone, &[0, 14, 22, 23], &[12, 13]),
+    (Slip::BytesFirst, REFUSED, &[14]),
+    (Slip::BytesEarlier, &[22, 23], &[14]),
+    (Slip::LongestAsked, &[0], &[14]),
+    (Slip::WritesFirst, REFUSED, REFUSED),
+    (Slip::ZerosBehind, &[0], &[0]),
+    (Slip::CountsLent, &[0], &[0]),
+    (Slip::WholeByte, &[0], &[0]),
+    (Slip::FourBits, &[0], &[0]),
+    (Slip::KeepsEdition, &[0], &[0]),
+    (Slip::NextEdition, &[0], &[0]),
+];
+
+/// Each slip shows where it should and nowhere else, often enough not to be luck.
+#[test]
+fn wrong_converters_are_caught() {
+    let journals = archived();
+    for (slip, right, wrong) in SLIPS {
+        let others = slips(&journals, slip);
+        let set = |numbers: &[u32]| numbers.iter().copied().collect::<BTreeSet<u32>>();
+        let rights: BTreeSet<u32> = others.keys().map(|pair| pair.0).collect();
+        let wrongs: BTreeSet<u32> = others.keys().map(|pair| pair.1).collect();
+        assert_eq!((rights, wrongs), (set(right), set(wrong)));
+        assert!(slip == Slip::None || others.values().sum::<u32>() >= 20);
+    }
 }

@@ -6,9 +6,11 @@
 //! call writes what an unmarked zone has saved as 0 (there these values are not compared).
 
 use crate::proved::{self, Numbers, Told};
+use second::archive;
 use second::generate::{self, accepted, journal_of, SHAPES};
 use second::random::{any_edition, direction, drive, edition, stocks, Random};
 use second::site::{Call, Direction};
+use speed::conversion;
 use speed::site::{self, Local, Received, Run, Written, MOST_RECORDS, PLACES, RECORDING_BYTES};
 use speed::zone::{Answer, Saved, Zone};
 use std::array::from_fn;
@@ -20,7 +22,7 @@ type Outcome<T> = Result<T, String>;
 
 /// The calls with the numbers that they answer: the refusals, and behind them how many items remain after
 /// an accepted receipt and at the last one of an accepted reading, where more are met seldom.
-const CALLS: [(&str, &[u8]); 21] = [
+const CALLS: [(&str, &[u8]); 23] = [
     ("open", &[0, 2, 3, 4, 15]),
     ("send", &[0, 1, 5, 6, 7, 8]),
     ("receive", &[0, 1, 5, 6, 9, 10]),
@@ -33,6 +35,8 @@ const CALLS: [(&str, &[u8]); 21] = [
     ("read", &[0, 4, 15, 16, 17, 18, 19]),
     ("read-record", &[0, 4, 12, 13, 14, 15, 16, 17, 18, 19]),
     ("read-page", &[0, 4, 12, 13, 14, 15, 16, 17, 18, 19]),
+    ("upgrade", &[0, 4, 14, 15, 16, 17, 18, 19, 22]),
+    ("downgrade", &[0, 4, 14, 15, 16, 17, 18, 19, 22, 23]),
     ("zone-open", &[0, 2, 5, 15]),
     ("zone-send", &[0, 1, 5, 6, 7]),
     ("zone-receive", &[0, 1, 5, 6, 20]),
@@ -62,7 +66,7 @@ const LEAST: u64 = 20;
 #[derive(Default)]
 struct Counts {
     /// By call, then by number.
-    times: [[u64; 22]; CALLS.len()],
+    times: [[u64; 24]; CALLS.len()],
     comparisons: u64,
 }
 
@@ -109,12 +113,13 @@ impl Counts {
 type Trial = fn(&mut Counts, &mut Random, usize) -> Outcome<()>;
 
 /// The kinds of trials with their numbers in one round.
-const KINDS: [(&str, usize, Trial); 5] = [
+const KINDS: [(&str, usize, Trial); 6] = [
     ("zones", 20_000, zones),
     ("openings", 10_000, openings),
     ("lists of calls", 1_000, lists),
     ("run states", 3_500, states),
     ("journals", 2_500, journals),
+    ("conversions", 1_000, conversions),
 ];
 
 /// Makes rounds for so many seconds, at least one.
@@ -734,7 +739,37 @@ fn journals(counts: &mut Counts, random: &mut Random, index: usize) -> Outcome<(
         for writer in writers {
             write(counts, random, writer, &bytes[..], true)?;
         }
+        convert(counts, random, &bytes)?;
         spoil(random, &mut bytes);
     }
     Ok(())
+}
+
+/// Compares both conversions of a journal, lent about as many bytes as it has.
+fn convert(counts: &mut Counts, random: &mut Random, journal: &[u8]) -> Outcome<()> {
+    let writers: [Writer<[u8]>; 2] = [
+        ("upgrade", proved::upgrade, conversion::upgrade),
+        ("downgrade", proved::downgrade, conversion::downgrade),
+    ];
+    for (name, proved, peer) in writers {
+        for lent in lents(random, journal.len()) {
+            let theirs = written(&lent, |out| {
+                let mut numbers = Numbers::default();
+                let refusal = proved(journal, out, &mut numbers);
+                numbers.with(refusal)
+            });
+            let mine = written(&lent, |out| peer(journal, out));
+            counts.same(name, theirs.0.refusal, &theirs, &mine)?;
+        }
+    }
+    Ok(())
+}
+
+/// Journals for the converter, then with a damage.
+fn conversions(counts: &mut Counts, random: &mut Random, index: usize) -> Outcome<()> {
+    let edition = [1, 3][index % 2];
+    let mut bytes = archive::journal_of(random, edition, index / 2 % archive::KINDS);
+    convert(counts, random, &bytes)?;
+    spoil(random, &mut bytes);
+    convert(counts, random, &bytes)
 }

@@ -8,6 +8,7 @@
 
 #![forbid(unsafe_code)]
 
+pub mod conversion;
 mod page;
 mod replay;
 pub mod site;

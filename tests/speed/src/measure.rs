@@ -6,6 +6,7 @@
 
 use crate::proved::{self, idle, Numbers, Told};
 use crate::scenes;
+use speed::conversion;
 use speed::site::{self, Run, RECORDING_BYTES};
 use speed::zone::{Answer, Saved, Zone};
 use std::array::from_fn;
@@ -131,6 +132,26 @@ const READ_RECORD: Call = writing!("read-record", bytes, read_record, site::read
 const PAGE: Call = writing!("page", run, page, Run::page);
 const READ_PAGE: Call = writing!("read-page", bytes, read_page, site::read_page);
 const WRITE: Call = writing!("write", run, write, Run::write);
+
+/// Each conversion with the edition that it converts from: accepted, refused with 22 and with 15.
+const CONVERSIONS: [(u8, [Call; 3]); 2] = [
+    (
+        1,
+        [
+            writing!("upgrade", bytes, upgrade, conversion::upgrade),
+            writing!("upgrade, 22", bytes, upgrade, conversion::upgrade),
+            writing!("upgrade, 15", bytes, upgrade, conversion::upgrade),
+        ],
+    ),
+    (
+        3,
+        [
+            writing!("downgrade", bytes, downgrade, conversion::downgrade),
+            writing!("downgrade, 22", bytes, downgrade, conversion::downgrade),
+            writing!("downgrade, 15", bytes, downgrade, conversion::downgrade),
+        ],
+    ),
+];
 
 const OPEN: Call = Call {
     name: "open",
@@ -352,11 +373,12 @@ const GATE_STEPS: [Call; 2] = [
     step!("zone leave", zone_leave, leave, 3, 0, 0, (3), (3)),
 ];
 
-/// A call on a scene with its label: call, lines, zones, records.
+/// A call on a scene with its label: call, lines, zones, records; and the number that it answers.
 struct Case {
     label: String,
     ops: [Op; 3],
     scene: Box<Scene>,
+    refusal: u8,
 }
 
 fn case(call: &Call, lines: &str, run: Run) -> Case {
@@ -365,6 +387,15 @@ fn case(call: &Call, lines: &str, run: Run) -> Case {
         label: format!("{}\t{lines}\t{zones}\t{records}", call.name),
         ops: call.ops,
         scene: Box::new(Scene::new(run)),
+        refusal: 0,
+    }
+}
+
+/// A call that is refused.
+fn refused(call: &Call, refusal: u8, lines: &str, run: Run) -> Case {
+    Case {
+        refusal,
+        ..case(call, lines, run)
     }
 }
 
@@ -375,7 +406,7 @@ fn zone_case(call: &Call, run: Run) -> Case {
     case
 }
 
-/// All that is measured. Each case is tried: both must accept it and come to the same.
+/// All that is measured. Each case is tried: both must answer its number and come to the same.
 fn cases() -> Vec<Case> {
     let mut cases = Vec::new();
     for call in [READ, RECORD, READ_RECORD, WRITE] {
@@ -415,6 +446,7 @@ fn cases() -> Vec<Case> {
     }
     gates(&mut cases);
     pages(&mut cases);
+    conversions(&mut cases);
     for case in &mut cases {
         try_out(case);
     }
@@ -455,13 +487,29 @@ fn pages(cases: &mut Vec<Case>) {
     }
 }
 
+/// The conversions of case A, of the longest runs of 8 zones, of one that ends with a hand-over of 0
+/// cars, and of one of edition 2.
+fn conversions(cases: &mut Vec<Case>) {
+    for (edition, [accepted, empty, other]) in &CONVERSIONS {
+        cases.push(case(accepted, "case A", scenes::case_a_in(*edition)));
+        let ring = scenes::ring_in(*edition, 8, 1_000);
+        cases.push(case(accepted, "ring", ring));
+        let full = scenes::full_in(*edition, 8, 1_000, 1);
+        cases.push(case(accepted, "full", full));
+        let emptied = scenes::emptied(*edition, 8, 1_000);
+        cases.push(refused(empty, 22, "ring", emptied));
+        let ring = scenes::ring_in(2, 8, 1_000);
+        cases.push(refused(other, 15, "ring", ring));
+    }
+}
+
 fn try_out(case: &mut Case) {
     let [_, proved, peer] = case.ops;
     let scene = &mut *case.scene;
     let mut shown = |op: Op| {
         scene.work = scene.run;
         scene.out = [0; RECORDING_BYTES];
-        assert_eq!(op(scene), 0, "{} is accepted", case.label);
+        assert_eq!(op(scene), case.refusal, "{}", case.label);
         let mut zone = scene.zone_work;
         if zone.mark == 0 {
             zone.saved = Saved::default();

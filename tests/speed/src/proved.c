@@ -79,6 +79,16 @@ uint8_t proved_read_page(const uint8_t *bytes, size_t n, uint8_t *out, size_t si
     return tell(told, cut_journal_page(bytes, n, out, size));
 }
 
+uint8_t proved_upgrade(const uint8_t *bytes, size_t n, uint8_t *out, size_t size, write_told *told)
+{
+    return tell(told, cut_journal_upgrade(bytes, n, out, size));
+}
+
+uint8_t proved_downgrade(const uint8_t *bytes, size_t n, uint8_t *out, size_t size, write_told *told)
+{
+    return tell(told, cut_journal_downgrade(bytes, n, out, size));
+}
+
 uint8_t proved_read(const uint8_t *bytes, size_t n, cut_run *run, size_t *position, uint8_t *remaining)
 {
     cut_reading r = cut_journal_read(bytes, n);

@@ -56,6 +56,20 @@ mod raw {
             size: usize,
             numbers: *mut Numbers,
         ) -> u8;
+        pub fn proved_upgrade(
+            bytes: *const u8,
+            n: usize,
+            out: *mut u8,
+            size: usize,
+            numbers: *mut Numbers,
+        ) -> u8;
+        pub fn proved_downgrade(
+            bytes: *const u8,
+            n: usize,
+            out: *mut u8,
+            size: usize,
+            numbers: *mut Numbers,
+        ) -> u8;
         pub fn proved_read(
             bytes: *const u8,
             n: usize,
@@ -224,6 +238,16 @@ pub fn read_record(journal: &[u8], out: &mut [u8], numbers: &mut Numbers) -> u8 
 pub fn read_page(journal: &[u8], out: &mut [u8], numbers: &mut Numbers) -> u8 {
     let (bytes, size) = (out.as_mut_ptr(), out.len());
     unsafe { raw::proved_read_page(journal.as_ptr(), journal.len(), bytes, size, numbers) }
+}
+
+pub fn upgrade(journal: &[u8], out: &mut [u8], numbers: &mut Numbers) -> u8 {
+    let (bytes, size) = (out.as_mut_ptr(), out.len());
+    unsafe { raw::proved_upgrade(journal.as_ptr(), journal.len(), bytes, size, numbers) }
+}
+
+pub fn downgrade(journal: &[u8], out: &mut [u8], numbers: &mut Numbers) -> u8 {
+    let (bytes, size) = (out.as_mut_ptr(), out.len());
+    unsafe { raw::proved_downgrade(journal.as_ptr(), journal.len(), bytes, size, numbers) }
 }
 
 pub fn read(run: &mut Run, bytes: &[u8]) -> Read {

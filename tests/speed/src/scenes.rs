@@ -1,6 +1,6 @@
 //! What is measured: runs with nearly empty and with full lines, made by the peer's calls.
 
-use second::generate::CASE_A;
+use second::generate::{with_edition, CASE_A};
 use second::random::Random;
 use speed::site::Run;
 
@@ -30,8 +30,13 @@ fn room(run: &Run, records: usize) -> usize {
 
 /// Case A of docs/RULES.md.
 pub fn case_a() -> Run {
+    case_a_in(1)
+}
+
+/// The same in another edition.
+pub fn case_a_in(edition: u8) -> Run {
     let mut run = Run::REFUSED;
-    must(run.read(&CASE_A).refusal);
+    must(run.read(&with_edition(edition.into(), &CASE_A)).refusal);
     run
 }
 
@@ -52,7 +57,12 @@ fn take_request(run: &mut Run) -> bool {
 /// its requests: the recorded lines are empty. With few records zone 1 hears nobody and sends no
 /// request.
 pub fn ring(zones: u8, records: usize) -> Run {
-    let mut run = opened(1, zones, 1_000);
+    ring_in(1, zones, records)
+}
+
+/// The same in another edition.
+pub fn ring_in(edition: u8, zones: u8, records: usize) -> Run {
+    let mut run = opened(edition, zones, 1_000);
     let is_whole = records >= 3 * usize::from(zones);
     let (round, last) = if is_whole {
         (zones, usize::from(zones))
@@ -97,8 +107,13 @@ pub fn gates(zones: u8, records: usize) -> Run {
 /// start by zone 1 and the receipts of its requests: nearly all that is on lines is recorded. With few
 /// records zone 1 hears zone 2 alone and nobody else receives.
 pub fn full(zones: u8, records: usize) -> Run {
+    full_in(1, zones, records, 0)
+}
+
+/// The same in another edition, with so many cars at least in each hand-over.
+pub fn full_in(edition: u8, zones: u8, records: usize, fewest: u32) -> Run {
     let mut random = Random::new(u64::from(zones) * 10_000 + records as u64);
-    let mut run = opened(1, zones, 8_000);
+    let mut run = opened(edition, zones, 8_000);
     let is_whole = records >= 3 * usize::from(zones) + 4;
     let heard = if is_whole { zones - 1 } else { 1 };
     for from in 2..2 + heard {
@@ -106,7 +121,7 @@ pub fn full(zones: u8, records: usize) -> Run {
     }
     let last = 1 + usize::from(heard);
     while room(&run, records) > last {
-        fill(&mut random, &mut run, is_whole);
+        fill(&mut random, &mut run, is_whole, fewest);
     }
     must(run.start(1));
     while take_request(&mut run) {}
@@ -115,7 +130,7 @@ pub fn full(zones: u8, records: usize) -> Run {
 }
 
 /// A hand-over on a line with room, or a receipt on one that is nearly full.
-fn fill(random: &mut Random, run: &mut Run, receives: bool) {
+fn fill(random: &mut Random, run: &mut Run, receives: bool, fewest: u32) {
     let zones = u32::from(run.count);
     let (from, to) = (random.within(2, zones) as u8, random.within(1, zones) as u8);
     if from == to {
@@ -123,10 +138,17 @@ fn fill(random: &mut Random, run: &mut Run, receives: bool) {
     }
     let length = run.lens[8 * usize::from(from - 1) + usize::from(to - 1)];
     if length < 14 || length < 16 && random.chance(50) {
-        must(run.send(from, to, random.within(0, 20) as u8));
+        must(run.send(from, to, random.within(fewest, 20) as u8));
     } else if receives {
         take(run, from, to);
     }
+}
+
+/// A ring whose last record is a hand-over of 0 cars.
+pub fn emptied(edition: u8, zones: u8, records: usize) -> Run {
+    let mut run = ring_in(edition, zones, records - 1);
+    must(run.send(1, 2, 0));
+    run
 }
 
 /// A run of 99 records with one item on the line from 1 to 2, of so many cars, and empty lines else.

@@ -1,6 +1,7 @@
 //! Writes journals behind their lengths to one file and the expected texts to another, for each its
-//! line and then its page, and prints what stands out among them, by edition.
+//! line, its page and then both conversions of it, and prints what stands out among them, by edition.
 
+use second::conversion::{convert, CONVERSIONS};
 use second::generate::{self, Traits};
 use second::print;
 use std::collections::BTreeMap;
@@ -13,6 +14,8 @@ struct Tally {
     journals: u32,
     numbers: BTreeMap<u32, u32>,
     sites: BTreeMap<u32, u32>,
+    /// By the word of the conversion and its number.
+    conversions: BTreeMap<(&'static str, u32), u32>,
     traits: [u32; TRAITS.len()],
 }
 
@@ -36,7 +39,8 @@ const TRAITS: [Trait; 9] = [
 ];
 
 impl Tally {
-    fn add(&mut self, traits: &Traits) {
+    fn add(&mut self, journal: &[u8]) {
+        let traits = &generate::traits(journal);
         self.journals += 1;
         *self.numbers.entry(traits.refusal).or_insert(0) += 1;
         if traits.refusal == 0 {
@@ -44,6 +48,11 @@ impl Tally {
         }
         for (times, (_, has)) in self.traits.iter_mut().zip(TRAITS) {
             *times += u32::from(has(traits));
+        }
+        for conversion in CONVERSIONS {
+            let answer = convert(conversion, journal, &mut vec![0; journal.len()]);
+            let counted = (conversion.word(), answer.refusal);
+            *self.conversions.entry(counted).or_insert(0) += 1;
         }
     }
 
@@ -53,6 +62,12 @@ impl Tally {
             match refusal {
                 0 => println!("  complete recordings: {times}"),
                 _ => println!("  refused {refusal}: {times}"),
+            }
+        }
+        for ((word, refusal), times) in &self.conversions {
+            match refusal {
+                0 => println!("  {word}: {times}"),
+                _ => println!("  {word} refused {refusal}: {times}"),
             }
         }
         if self.sites.is_empty() {
@@ -84,10 +99,9 @@ fn main() {
         let length = u16::try_from(journal.len()).expect("a length fits 16 bits");
         bytes.extend(length.to_be_bytes());
         bytes.extend(journal);
-        texts += &print::line(journal);
-        texts += &print::page(journal);
+        texts += &print::all(journal);
         let tally = tallies.entry(generate::edition_of(journal)).or_default();
-        tally.add(&generate::traits(journal));
+        tally.add(journal);
     }
     std::fs::write(&arguments[1], &bytes).expect("the journals can be written");
     std::fs::write(&arguments[2], &texts).expect("the texts can be written");

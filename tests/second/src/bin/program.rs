@@ -1,7 +1,9 @@
 //! Gives a built program journals and other bytes on its standard input and compares what it prints
-//! with the text of this implementation: that of a recording or of a page, as the program's name
-//! says. Then makes its reads and writes fail and compares what it says on standard error.
+//! with the answer of this implementation: a recording, a page, or a converted journal or its refusal,
+//! as the program's name and argument say. Then makes its reads and writes fail and compares what it
+//! says on standard error; and calls the converter with wrong arguments.
 
+use second::conversion::{convert, Conversion};
 use second::edition::EDITIONS;
 use second::generate;
 use second::limits::{doubled, gates, heaviest, longest, widest};
@@ -31,25 +33,128 @@ const PAUSE: Duration = Duration::from_micros(50);
 /// How many differences are shown.
 const SHOWN: u32 = 3;
 
-/// The text that a program prints for a journal.
-type Text = fn(&[u8]) -> String;
+/// What a program writes: on standard output, and on standard error.
+#[derive(PartialEq, Eq)]
+struct Answer {
+    printed: Vec<u8>,
+    said: String,
+}
 
-/// The programs by the names of their files.
-const PROGRAMS: [(&str, Text); 2] = [("cut_recorder", print::line), ("cut_page", print::page)];
+impl Answer {
+    fn of(output: &Output) -> Answer {
+        Answer {
+            printed: output.stdout.clone(),
+            said: String::from_utf8_lossy(&output.stderr).to_string(),
+        }
+    }
 
-/// A program that is tried.
+    fn printed(printed: impl Into<Vec<u8>>) -> Answer {
+        Answer {
+            printed: printed.into(),
+            said: String::new(),
+        }
+    }
+
+    fn said(said: impl Into<String>) -> Answer {
+        Answer {
+            printed: Vec::new(),
+            said: said.into(),
+        }
+    }
+
+    /// The first part of what is printed and what is said.
+    fn cut(&self) -> String {
+        let printed = String::from_utf8_lossy(&self.printed);
+        let printed: String = printed.chars().take(80).collect();
+        format!("{printed:?}, {:?}", self.said)
+    }
+}
+
+/// The converted journal, or the refusal on standard error.
+fn converted(conversion: Conversion, journal: &[u8]) -> Answer {
+    let mut lent = vec![0; journal.len()];
+    let answer = convert(conversion, journal, &mut lent);
+    match answer.refusal {
+        0 => Answer::printed(&lent[..answer.written]),
+        refusal => Answer::said(print::refused(refusal)),
+    }
+}
+
+/// What a program does with a journal.
+#[derive(Clone, Copy)]
+enum Task {
+    Record,
+    Page,
+    Convert(Conversion),
+}
+
+/// A program that is tried, and at what.
 struct Program<'a> {
     path: &'a str,
     name: &'static str,
-    text: Text,
+    task: Task,
 }
 
+const CONVERTER: &str = "cut_convert";
+
+/// The programs by the names of their files.
+const PROGRAMS: [(&str, &[Task]); 3] = [
+    ("cut_recorder", &[Task::Record]),
+    ("cut_page", &[Task::Page]),
+    (
+        CONVERTER,
+        &[
+            Task::Convert(Conversion::Upgrade),
+            Task::Convert(Conversion::Downgrade),
+        ],
+    ),
+];
+
 impl Program<'_> {
-    /// The program at a path; nothing where its file has another name than those above.
-    fn at(path: &str) -> Option<Program<'_>> {
-        let file = Path::new(path).file_name()?;
-        let (name, text) = PROGRAMS.into_iter().find(|(name, _)| file == *name)?;
-        Some(Program { path, name, text })
+    /// The program at a path with each of its tasks; none where its file has another name than those
+    /// above.
+    fn at(path: &str) -> Vec<Program<'_>> {
+        let file = Path::new(path).file_name();
+        let mut programs = PROGRAMS.into_iter();
+        let named = programs.find(|(name, _)| file == Some(name.as_ref()));
+        let (name, tasks) = named.unwrap_or(("", &[]));
+        let tasks = tasks.iter();
+        tasks.map(|&task| Program { path, name, task }).collect()
+    }
+
+    /// The conversion that its argument names, where it has one.
+    fn conversion(&self) -> Option<Conversion> {
+        match self.task {
+            Task::Convert(conversion) => Some(conversion),
+            _ => None,
+        }
+    }
+
+    fn argument(&self) -> Option<&'static str> {
+        self.conversion().map(Conversion::word)
+    }
+
+    /// The name with the argument.
+    fn called(&self) -> String {
+        let words = [self.name].into_iter().chain(self.argument());
+        words.collect::<Vec<_>>().join(" ")
+    }
+
+    /// What it answers to a journal.
+    fn answer(&self, journal: &[u8]) -> Answer {
+        match self.task {
+            Task::Record => Answer::printed(print::line(journal)),
+            Task::Page => Answer::printed(print::page(journal)),
+            Task::Convert(conversion) => converted(conversion, journal),
+        }
+    }
+
+    /// A journal with a long answer.
+    fn long(&self) -> Vec<u8> {
+        match self.task {
+            Task::Convert(conversion) => longest_of(conversion),
+            _ => generate::bytes_of(&widest(1)),
+        }
     }
 
     /// What it says on standard error where a read fails.
@@ -63,13 +168,11 @@ impl Program<'_> {
     }
 }
 
-/// A run in which a read or a write failed: what the program wrote, and what it should have written
-/// on standard output and on standard error.
+/// A run in which a read or a write failed: what the program did, and what it should have written.
 struct Failed {
-    name: &'static str,
+    name: String,
     output: Output,
-    printed: String,
-    said: String,
+    expected: Answer,
 }
 
 /// An input with its name.
@@ -90,32 +193,25 @@ fn main() {
     let [_, path, stored, scratch] = &arguments[..] else {
         usage();
     };
-    let program = &Program::at(path).unwrap_or_else(|| usage());
+    let programs = Program::at(path);
+    if programs.is_empty() {
+        usage();
+    }
     let stored = split(&std::fs::read(stored).expect("the stored journals can be read"));
-    let made = made();
-    let mut inputs: Vec<(Way, &Input)> = stored.iter().map(|input| (Way::Whole, input)).collect();
-    for way in [Way::Whole, Way::Slow, Way::File] {
-        // What is longer than a pipe holds is not worth a pause a byte.
-        let short = |input: &&Input| !matches!(way, Way::Slow) || input.bytes.len() < 4_096;
-        inputs.extend(made.iter().filter(short).map(|input| (way, input)));
-    }
-    let (who, mut wrong) = (program.name, 0);
-    for (way, input) in &inputs {
-        let expected = (program.text)(&input.bytes);
-        let output = run(program, *way, &input.bytes, scratch);
-        let printed = String::from_utf8_lossy(&output.stdout);
-        if !output.status.success() || !output.stderr.is_empty() || printed != expected {
-            wrong += 1;
-            if wrong <= SHOWN {
-                let (name, bytes) = (&input.name, input.bytes.len());
-                println!("{who}: {name}, {bytes} bytes, {way:?}: {}", output.status);
-                println!("  printed {:?}", cut(&printed));
-                println!("  expected {:?}", cut(&expected));
-            }
+    let mut wrong = 0;
+    for program in &programs {
+        wrong += others(program, &stored, scratch);
+        let mut failed = unread(program, scratch);
+        failed.extend(unwritten(program, scratch));
+        if program.conversion().is_some() {
+            failed.extend(unused(program));
         }
+        wrong += untold(&program.called(), "failures made", &failed);
     }
-    println!("{who}: {} inputs compared, {wrong} differ", inputs.len());
-    wrong += untold(program, scratch);
+    if programs[0].name == CONVERTER {
+        let misused = misused(path, scratch);
+        wrong += untold(CONVERTER, "times called with wrong arguments", &misused);
+    }
     std::process::exit(i32::from(wrong != 0));
 }
 
@@ -125,30 +221,54 @@ fn usage() -> ! {
     std::process::exit(2);
 }
 
-/// Makes reads and writes of the program fail; how many of these it does not tell as expected.
-fn untold(program: &Program, scratch: &str) -> u32 {
-    let mut failed = unread(program, scratch);
-    failed.extend(unwritten(program, scratch));
-    let (who, mut wrong) = (program.name, 0);
-    for run in &failed {
-        let (name, status) = (run.name, run.output.status);
-        let printed = String::from_utf8_lossy(&run.output.stdout);
-        let said = String::from_utf8_lossy(&run.output.stderr);
-        if !status.success() || printed != run.printed || said != run.said {
+/// Compares what the program answers to stored journals and to other inputs; how many answers are
+/// others.
+fn others(program: &Program, stored: &[Input], scratch: &str) -> u32 {
+    let mut made = made();
+    if let Some(conversion) = program.conversion() {
+        made.extend(made_for(conversion));
+    }
+    let mut inputs: Vec<(Way, &Input)> = stored.iter().map(|input| (Way::Whole, input)).collect();
+    for way in [Way::Whole, Way::Slow, Way::File] {
+        // What is longer than a pipe holds is not worth a pause a byte.
+        let short = |input: &&Input| !matches!(way, Way::Slow) || input.bytes.len() < 4_096;
+        inputs.extend(made.iter().filter(short).map(|input| (way, input)));
+    }
+    let (who, mut wrong) = (program.called(), 0);
+    for (way, input) in &inputs {
+        let expected = program.answer(&input.bytes);
+        let output = run(program, *way, &input.bytes, scratch);
+        let answer = Answer::of(&output);
+        if !output.status.success() || answer != expected {
             wrong += 1;
-            println!("{who}: {name}: {status}");
-            println!("  printed {:?}, said {said:?}", cut(&printed));
-            println!("  expected {:?}, {:?}", cut(&run.printed), run.said);
+            if wrong <= SHOWN {
+                let (name, bytes) = (&input.name, input.bytes.len());
+                println!("{who}: {name}, {bytes} bytes, {way:?}: {}", output.status);
+                println!("  answered {}", answer.cut());
+                println!("  expected {}", expected.cut());
+            }
         }
     }
-    let made = failed.len();
-    println!("{who}: {made} failures made, {wrong} not told as expected");
+    println!("{who}: {} inputs compared, {wrong} differ", inputs.len());
     wrong
 }
 
-/// The first part of a text.
-fn cut(text: &str) -> String {
-    text.chars().take(80).collect()
+/// How many of these runs do not tell what failed as expected.
+fn untold(who: &str, what: &str, failed: &[Failed]) -> u32 {
+    let mut wrong = 0;
+    for run in failed {
+        let (name, status) = (&run.name, run.output.status);
+        let answer = Answer::of(&run.output);
+        if !status.success() || answer != run.expected {
+            wrong += 1;
+            println!("{who}: {name}: {status}");
+            println!("  answered {}", answer.cut());
+            println!("  expected {}", run.expected.cut());
+        }
+    }
+    let made = failed.len();
+    println!("{who}: {made} {what}, {wrong} not told as expected");
+    wrong
 }
 
 /// The journals of a file that has each behind its length in 16 bits, high byte first.
@@ -209,17 +329,51 @@ fn made() -> Vec<Input> {
     ]
 }
 
+/// The longest journal in the edition that is converted.
+fn longest_of(conversion: Conversion) -> Vec<u8> {
+    generate::with_edition(conversion.source(), &generate::bytes_of(&longest()))
+}
+
+/// More inputs for a conversion: journals of its edition, with what it refuses at the last record, and
+/// with more behind them than it looks at.
+fn made_for(conversion: Conversion) -> Vec<Input> {
+    let longest = longest_of(conversion);
+    let ended = |word: [u8; 2]| {
+        let mut bytes = longest.clone();
+        bytes[2_016..].copy_from_slice(&word);
+        bytes
+    };
+    let followed = |length: usize, byte: u8| {
+        let mut bytes = longest.clone();
+        bytes.resize(length, byte);
+        bytes
+    };
+    let first = 32 * conversion.source() as u8;
+    vec![
+        Input::new("one byte of the edition", vec![first + 4]),
+        Input::new("a header of the edition alone", vec![first + 4, 0]),
+        Input::new("no record", vec![first + 4, 0, 0, 5, 0, 7]),
+        Input::new("the longest journal of the edition", longest.clone()),
+        Input::new("a byte less of it", longest[..2_017].to_vec()),
+        Input::new("a byte more of it", followed(2_019, 0)),
+        Input::new("more behind it", followed(2_020, 1)),
+        Input::new("much more behind it", followed(100_000, 0xFF)),
+        Input::new("0 cars at the last record", ended([0x01, 0])),
+        Input::new("a gate at the last record", ended([0xC0, 1])),
+        Input::new("a refused last record", ended([0x40, 0])),
+    ]
+}
+
 fn started(program: &Program, input: Stdio) -> Child {
-    begun(&mut Command::new(program.path), input, Stdio::piped())
+    let mut command = Command::new(program.path);
+    begun(command.args(program.argument()), input, Stdio::piped())
 }
 
 /// Starts the program by a shell, which has prepared what it inherits.
 fn prepared(script: &str, program: &Program, input: Stdio, output: Stdio) -> Child {
-    begun(
-        Command::new("sh").args(["-c", script, program.path]),
-        input,
-        output,
-    )
+    let mut command = Command::new("sh");
+    command.args(["-c", script, program.path]);
+    begun(command.args(program.argument()), input, output)
 }
 
 fn begun(command: &mut Command, input: Stdio, output: Stdio) -> Child {
@@ -267,7 +421,7 @@ fn write(mut pipe: ChildStdin, way: Way, bytes: &[u8]) {
 
 /// Standard inputs that cannot be read, or not to their end: nothing is to be printed.
 fn unread(program: &Program, scratch: &str) -> Vec<Failed> {
-    let closed = prepared("exec \"$0\" <&-", program, Stdio::null(), Stdio::piped());
+    let closed = prepared(WITHOUT_INPUT, program, Stdio::null(), Stdio::piped());
     let directory = File::open("/").expect("the root directory can be opened");
     let written = File::create(scratch).expect("the scratch file can be made");
     [
@@ -287,10 +441,9 @@ fn unread(program: &Program, scratch: &str) -> Vec<Failed> {
     ]
     .into_iter()
     .map(|(name, child)| Failed {
-        name,
+        name: name.to_string(),
         output: ended(child),
-        printed: String::new(),
-        said: program.not_read(),
+        expected: Answer::said(program.not_read()),
     })
     .collect()
 }
@@ -305,41 +458,106 @@ fn broken(bytes: &[u8]) -> Stdio {
     OwnedFd::from(near).into()
 }
 
-/// Standard outputs that take nothing, or a part of the text.
-fn unwritten(program: &Program, scratch: &str) -> Vec<Failed> {
-    let journal = generate::bytes_of(&widest(1));
-    let given = |script: &str, output: Stdio| {
-        let mut child = prepared(script, program, Stdio::piped(), output);
-        // Where the output is a pipe, its reader goes away before there is an answer.
-        drop(child.stdout.take());
-        let pipe = child.stdin.take().expect("the program has a pipe");
-        write(pipe, Way::Whole, &journal);
-        ended(child)
-    };
+/// What a shell does that gives the program its place.
+const PLAINLY: &str = "exec \"$0\" \"$@\"";
+const WITHOUT_INPUT: &str = "exec \"$0\" \"$@\" <&-";
+const WITHOUT_OUTPUT: &str = "exec \"$0\" \"$@\" >&-";
+// A process that does not ignore the signal of a pipe without a reader, or of a file at its limit, is
+// ended by it. The limit is 512 bytes, which is a part of a page too.
+const UNREAD: &str = "trap '' PIPE; exec \"$0\" \"$@\"";
+const LIMITED: &str = "trap '' XFSZ; ulimit -f 1; exec \"$0\" \"$@\"";
+
+fn full_device() -> Stdio {
     let full = OpenOptions::new().write(true).open("/dev/full");
-    let full = full.expect("the full device can be opened");
+    full.expect("the full device can be opened").into()
+}
+
+/// Standard outputs that take nothing, or a part of the answer.
+fn unwritten(program: &Program, scratch: &str) -> Vec<Failed> {
+    let journal = program.long();
+    let given = |script: &str, output: Stdio| given(program, script, output, &journal);
     let short = File::create(scratch).expect("the scratch file can be made");
-    let closed = given("exec \"$0\" >&-", Stdio::null());
-    let full = given("exec \"$0\"", full.into());
-    // A process that does not ignore the signal of a pipe without a reader, or of a file at its
-    // limit, is ended by it.
-    let unread = given("trap '' PIPE; exec \"$0\"", Stdio::piped());
-    // The limit is 512 bytes, which is a part of a page too.
-    let mut part = given("trap '' XFSZ; ulimit -f 1; exec \"$0\"", short.into());
+    let mut part = given(LIMITED, short.into());
     part.stdout = std::fs::read(scratch).expect("the scratch file can be read");
-    let text = (program.text)(&journal);
+    let whole = program.answer(&journal).printed;
     let length = part.stdout.len();
-    assert!(0 < length && length < text.len(), "a part is written");
-    let told = |name, output, printed: &str| Failed {
-        name,
+    assert!(0 < length && length < whole.len(), "a part is written");
+    let told = |name: &str, output, printed: &[u8]| Failed {
+        name: name.to_string(),
         output,
-        printed: printed.to_string(),
-        said: program.not_written(),
+        expected: Answer {
+            printed: printed.to_vec(),
+            said: program.not_written(),
+        },
+    };
+    let closed = given(WITHOUT_OUTPUT, Stdio::null());
+    let full = given(PLAINLY, full_device());
+    let unread = given(UNREAD, Stdio::piped());
+    vec![
+        told("a closed output", closed, &[]),
+        told("a full device as the output", full, &[]),
+        told("a pipe without a reader as the output", unread, &[]),
+        told("an output that takes a part", part, &whole[..length]),
+    ]
+}
+
+/// The same beside a refusal of the converter, which prints nothing there.
+fn unused(program: &Program) -> Vec<Failed> {
+    let refused = |name: &str, script: &str, output: Stdio| Failed {
+        name: name.to_string(),
+        output: given(program, script, output, &[]),
+        expected: program.answer(&[]),
     };
     vec![
-        told("a closed output", closed, ""),
-        told("a full device as the output", full, ""),
-        told("a pipe without a reader as the output", unread, ""),
-        told("an output that takes a part", part, &text[..length]),
+        refused("a refusal, a closed output", WITHOUT_OUTPUT, Stdio::null()),
+        refused("a refusal, a full device", PLAINLY, full_device()),
     ]
+}
+
+/// Runs the program by a shell on these bytes. Where the output is a pipe, its reader goes away before
+/// there is an answer.
+fn given(program: &Program, script: &str, output: Stdio, bytes: &[u8]) -> Output {
+    let mut child = prepared(script, program, Stdio::piped(), output);
+    drop(child.stdout.take());
+    let pipe = child.stdin.take().expect("the program has a pipe");
+    write(pipe, Way::Whole, bytes);
+    ended(child)
+}
+
+/// Arguments that the converter has no use for: none, another one, or one more.
+const WRONG_ARGUMENTS: [&[&str]; 13] = [
+    &[],
+    &[""],
+    &["up"],
+    &["upgrad"],
+    &["upgrades"],
+    &["Upgrade"],
+    &["downgraded"],
+    &["upgrade upgrade upgrade"],
+    &["--help"],
+    &["upgrade", ""],
+    &["upgrade", "upgrade"],
+    &["upgrade", "downgrade"],
+    &["downgrade", "upgrade", "upgrade"],
+];
+
+/// Calls of the converter with these, on a journal and without an input, which it does not read.
+fn misused(path: &str, scratch: &str) -> Vec<Failed> {
+    std::fs::write(scratch, generate::CASE_A).expect("the scratch file can be written");
+    let mut failed = Vec::new();
+    for list in WRONG_ARGUMENTS {
+        let journal = File::open(scratch).expect("the scratch file can be read");
+        let (mut plainly, mut shell) = (Command::new(path), Command::new("sh"));
+        let shell = shell.args(["-c", WITHOUT_INPUT, path]).args(list);
+        let children = [
+            begun(plainly.args(list), journal.into(), Stdio::piped()),
+            begun(shell, Stdio::null(), Stdio::piped()),
+        ];
+        failed.extend(children.map(|child| Failed {
+            name: format!("the arguments {list:?}"),
+            output: ended(child),
+            expected: Answer::said(format!("usage: {CONVERTER} upgrade|downgrade\n")),
+        }));
+    }
+    failed
 }

@@ -59,6 +59,8 @@ fn on_bytes(name: &str, bytes: Vec<u8>) -> Option<Once> {
         "read" => Box::new(move || u32::from(black_box(&ffi::cut_journal_read(&bytes)).refusal)),
         "read-record" => writing(move |lent| ffi::cut_journal_record(&bytes, lent).refusal),
         "read-page" => writing(move |lent| ffi::cut_journal_page(&bytes, lent).refusal),
+        "upgrade" => writing(move |lent| ffi::cut_journal_upgrade(&bytes, lent).refusal),
+        "downgrade" => writing(move |lent| ffi::cut_journal_downgrade(&bytes, lent).refusal),
         _ => return None,
     })
 }

@@ -1,6 +1,7 @@
 //! The same calls of the second implementation.
 
 use crate::Once;
+use second::conversion::{convert, Conversion};
 use second::print::MOST_BYTES;
 use second::site::{Call, Direction, Run};
 use second::zone::{Answer, Zone};
@@ -75,6 +76,8 @@ fn on_bytes(name: &str, bytes: Vec<u8>) -> Option<Once> {
         "read" => Box::new(move || black_box(&journal::read(&bytes)).refusal),
         "read-record" => writing(move |lent| read(&bytes, |run| recording::write(run, lent).0)),
         "read-page" => writing(move |lent| read(&bytes, |run| page::write(run, lent).0)),
+        "upgrade" => writing(move |lent| convert(Conversion::Upgrade, &bytes, lent).refusal),
+        "downgrade" => writing(move |lent| convert(Conversion::Downgrade, &bytes, lent).refusal),
         _ => return None,
     })
 }
