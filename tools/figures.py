@@ -182,8 +182,9 @@ def main():
         print("\n| Other figures | |\n|---|---|")
         row("code of `cut_recorder`, bytes", [size(PROVED)])
         row("code of `cut_page`, bytes", [size("target/bin/cut_page")])
+        row("code of `cut_convert`, bytes", [size("target/bin/cut_convert")])
         row("code of the zone part for C, bytes", [size("target/staticlib/libzone_c.a")])
-        row("code of the site engine, journal, recording and page for C, bytes", [size("target/staticlib/libsite_c.a")])
+        row("code of the site engine, journal, converter, recording and page for C, bytes", [size("target/staticlib/libsite_c.a")])
         row("most stack used by `cut_recorder` on 1,000 records, bytes", [stack(folder)])
     if len(sys.argv) == 2:
         gate(sys.argv[1])

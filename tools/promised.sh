@@ -18,7 +18,7 @@ missing=$(
     listed ZoneC "$(named zone_c 'extern "C" fn')"
     listed SiteC "$(named site_c 'extern "C" fn')"
     listed Cursor "$(named cursor 'pub fn')"
-    listed Journal "$(named reader 'pub fn' | grep -vx read_in) $(named writer 'pub fn' | grep -vx is_replayed)"
+    listed Journal "$(named reader 'pub fn' | grep -vx read_in) $(named writer 'pub fn' | grep -vx is_replayed) $(named converter 'pub fn')"
     listed Recording "$(named recorder 'pub fn') $(named pager 'pub fn') $(named report 'pub fn')"
 )
 [ -z "$missing" ] || {

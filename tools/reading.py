@@ -143,7 +143,7 @@ def graph(rows):
     for c in sorted(uses, key=level.get):
         code = "".join(p.read_text(encoding="utf-8") for p in (ROOT / "crates" / c / "src").glob("*.rt"))
         rests = [d for d in uses[c] if not any(d in below[e] for e in uses[c])]
-        holds = "functions" if re.search(r"^ *(?:pub )?(?:extern \"C\" )?fn ", code, re.M) else "types" if "pub struct" in code else "-"
+        holds = "functions" if re.search(r"^ *(?:pub )?(?:extern \"C\" )?fn ", code, re.M) else "types" if re.search(r"^pub (?:struct|enum) ", code, re.M) else "-"
         made.append(line([str(level[c]), c, text[c], holds, ", ".join(rests) or "-"]))
     return made
 

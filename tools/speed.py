@@ -16,11 +16,14 @@ ROUNDS = 51
 RUNS = ["read", "record", "read-record", "write"]
 # What works on a whole run too, but is measured on the longest runs alone.
 PAGES = ["page", "read-page"]
+# The same, accepted and refused.
+CONVERSIONS = [f"{word}{refused}" for word in ("upgrade", "downgrade") for refused in ("", ", 22", ", 15")]
 CALLS = ["send", "receive", "start", "enter", "leave"]
 # The lines of whole runs; the last are of edition 3, with gates.
 LINES = [("ring", ("2", "4", "8")), ("full", ("2", "4", "8")), ("gates", ("2", "8"))]
 PARTS = [("read", "ring", "8", "1000"), ("record", "ring", "2", "10"), ("record", "ring", "8", "1000"), ("record", "full", "8", "1000"),
-         ("read-record", "full", "8", "1000"), ("page", "full", "8", "1000"), ("write", "ring", "8", "1000"), ("send", "empty", "8", "99"), ("send", "full", "8", "854"),
+         ("read-record", "full", "8", "1000"), ("page", "full", "8", "1000"), ("upgrade", "full", "8", "1000"), ("downgrade", "full", "8", "1000"),
+         ("write", "ring", "8", "1000"), ("send", "empty", "8", "99"), ("send", "full", "8", "854"),
          ("read", "gates", "8", "1000"), ("record", "gates", "8", "1000"), ("enter", "empty", "8", "99"), ("leave", "empty", "8", "99")]
 # Nanoseconds below which the time of a call cannot be told from that of measuring, so that a ratio would mean nothing.
 LEAST_NS = 5
@@ -213,10 +216,12 @@ def main():
     print("\nWhole runs:")
     figures.table(lambda label: label[0] in RUNS + PAGES)
     figures.growth()
+    print("\nConversions; behind a comma the number of a refusal:")
+    figures.table(lambda label: label[0] in CONVERSIONS)
     print("\nWhere the proved code's instructions go:")
     figures.parts()
     print("\nSingle calls of the site:")
-    figures.table(lambda label: label[0] not in RUNS + PAGES and not label[0].startswith("zone"))
+    figures.table(lambda label: label[0] not in RUNS + PAGES + CONVERSIONS and not label[0].startswith("zone"))
     print("\nSteps of the zone part:")
     figures.table(lambda label: label[0].startswith("zone"))
 
