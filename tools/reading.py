@@ -1,16 +1,21 @@
 #!/usr/bin/env python3
-"""Writes into README.md what follows from the tree; with --check it writes nothing and fails where README.md is stale. The gate runs it so.
+"""Writes into docs/READING.md and README.md what follows from the tree; with --check it writes nothing and fails where one of them is stale. The
+gate runs it so.
 
-Its parts there stand each between <!-- NAME --> and <!-- end -->:
+The parts stand each between <!-- NAME --> and <!-- end -->. In docs/READING.md:
 - crates: the graph of crates.txt. Written: the levels, whether there is code, and what a crate rests on, without what follows from the rest.
   The text of each row is kept.
 - hour, full: reading lists. Written: the lines to be read, a sum at the end. A row names files in backquotes, `a/{B,C}.antt` for two;
   names in backquotes behind a file mean these alone. Blank lines and imports are not counted; of code (.rt) only the public types and
   contracts with their comments; of a name in proofs/ its statement, with the line of the module that binds its parameters.
 - inner: the definition files that only serve proofs.
+In README.md:
+- cut: the picture of a run and its cut, as docs/RULES.md has it.
+- page: what `cut_page` prints for its stored journal, which rt holds to be so.
+- storeys: kept, and held to crates.txt.
 
 It is an error if a file that is named does not exist or has no such name; if a definition file stands neither in `full` nor in `inner`, or
-in both; if one in `full` uses one in `inner`.
+in both; if one in `full` uses one in `inner`; if a crate does not stand in just one storey, or rests on one of a higher storey.
 """
 import itertools
 import pathlib
@@ -19,16 +24,18 @@ import sys
 
 ROOT = pathlib.Path(__file__).resolve().parent.parent
 README = ROOT / "README.md"
+READING = ROOT / "docs" / "READING.md"
+RULES = ROOT / "docs" / "RULES.md"
 QUOTED = re.compile(r"`([^`]*)`")
 PUBLIC = re.compile(r'^( *)pub (?:extern "C" )?(fn|struct|enum|const) (\w+)')
 
 
 def part(text, name):
-    """The part of README.md of a name: what stands before it, its lines, what stands behind it."""
+    """The part of a document of a name: what stands before it, its lines, what stands behind it."""
     before, mark, rest = text.partition(f"<!-- {name} -->\n")
     inside, end, behind = rest.partition("<!-- end -->\n")
     if not mark or not end:
-        sys.exit(f"README.md has no part {name}")
+        sys.exit(f"there is no part {name}")
     return before + mark, inside.splitlines(), end + behind
 
 
@@ -46,7 +53,7 @@ def paths(token):
     for path in map("".join, itertools.product(*pieces)):
         found = sorted(ROOT.glob(path))
         if not found:
-            sys.exit(f"README.md: there is no {path}")
+            sys.exit(f"docs/READING.md: there is no {path}")
         yield from found
 
 
@@ -101,7 +108,7 @@ def count(path, names):
     else:
         found, kept = set(), set(range(len(lines)))
     for name in set(names) - found:
-        sys.exit(f"README.md: {path.relative_to(ROOT)} has no {name}")
+        sys.exit(f"docs/READING.md: {path.relative_to(ROOT)} has no {name}")
     return sum(1 for i in kept if lines[i].strip())
 
 
@@ -127,13 +134,17 @@ def reading(rows):
     return [head, rule] + [line(cells(r)[:-1] + [f"{sums[r]:,}"]) for r in body] + [line(cells(last)[:-1] + [f"{sum(sums.values()):,}"])]
 
 
+def crates():
+    """By crate: the crates of crates.txt that it rests on."""
+    uses = dict(re.findall(r"^(\w+): *(.*)$", (ROOT / "crates.txt").read_text(encoding="utf-8"), re.M))
+    return {c: [d for d in ds.split() if d in uses] for c, ds in uses.items()}
+
+
 def graph(rows):
     """The table of the crates."""
-    text = {cells(r)[1]: cells(r)[2] for r in rows[2:]}
-    uses = dict(re.findall(r"^(\w+): *(.*)$", (ROOT / "crates.txt").read_text(encoding="utf-8"), re.M))
+    text, uses = {cells(r)[1]: cells(r)[2] for r in rows[2:]}, crates()
     for crate in sorted(set(uses) ^ set(text)):
-        sys.exit(f"README.md and crates.txt do not both have the crate {crate}")
-    uses = {c: [d for d in ds.split() if d in uses] for c, ds in uses.items()}
+        sys.exit(f"docs/READING.md and crates.txt do not both have the crate {crate}")
     below, level = {}, {}
     for c in [c for _ in uses for c in uses]:
         if c not in level and all(d in level for d in uses[c]):
@@ -161,16 +172,46 @@ def definitions(full, inner):
                 yield f"{path.relative_to(ROOT)} uses {crate}'s {module}, which only serves proofs"
 
 
+def storeys(rows):
+    """Says where the storeys, of which the highest stands first, and crates.txt do not agree."""
+    named = [(crate, height) for height, row in enumerate(reversed(rows[2:])) for crate in QUOTED.findall(row)]
+    heights, uses = dict(named), crates()
+    for crate in sorted(set(heights) ^ set(uses)) + [c for c in heights if [n for n, _ in named].count(c) > 1]:
+        yield f"README.md: the crate {crate} does not stand in just one storey"
+    for crate, below in sorted(uses.items()):
+        for other in below:
+            if heights.get(other, 0) > heights.get(crate, 0):
+                yield f"README.md: {crate} rests on {other}, which stands in a higher storey"
+
+
+def picture(_):
+    """The picture of a run and its cut, with its fence."""
+    section = RULES.read_text(encoding="utf-8").partition("\n### A run and its cut\n")[2]
+    return re.search(r"```\n.*?```", section, re.S).group(0).splitlines()
+
+
+def printed(_):
+    """What `cut_page` prints, as text of its own."""
+    lines = (ROOT / "crates" / "cut_page" / "stdout").read_text(encoding="utf-8").splitlines()
+    return [""] + ["    " + text for text in lines] + [""]
+
+
 def main():
-    text = new = README.read_text(encoding="utf-8")
-    for name, write in (("crates", graph), ("hour", reading), ("full", reading)):
-        before, rows, behind = part(new, name)
-        new = before + "\n".join(write(rows)) + "\n" + behind
-    wrong = list(definitions(part(new, "full")[1], part(new, "inner")[1]))
-    if new != text and "--check" in sys.argv:
-        wrong.append("README.md is stale: run python3 tools/reading.py")
-    elif new != text:
-        README.write_text(new, encoding="utf-8")
+    wrong = []
+    written = {READING: (("crates", graph), ("hour", reading), ("full", reading)), README: (("cut", picture), ("page", printed))}
+    for document, parts in written.items():
+        text = new = document.read_text(encoding="utf-8")
+        for name, write in parts:
+            before, rows, behind = part(new, name)
+            new = before + "\n".join(write(rows)) + "\n" + behind
+        if document == READING:
+            wrong += definitions(part(new, "full")[1], part(new, "inner")[1])
+        else:
+            wrong += storeys(part(new, "storeys")[1])
+        if new != text and "--check" in sys.argv:
+            wrong.append(f"{document.relative_to(ROOT)} is stale: run python3 tools/reading.py")
+        elif new != text:
+            document.write_text(new, encoding="utf-8")
     if wrong:
         sys.exit("\n".join(wrong))
 

@@ -36,58 +36,55 @@
 #define CUT_CARS_MAX 65535
 
 /* What a call answers: 0, or the number of the first question of its list, from left to right, that is answered no. Here are the
- * questions of docs/RULES.md in their order, each with README.md's words for its no, where "channel" in a name is "line" there. */
+ * questions of docs/RULES.md in their order, "channel" in a name being "line" there; cut_refusal_words has the words for each no. */
 enum cut_refusal {
     CUT_ACCEPTED = 0,
-    /* "Is the state sound"? No: the state is not sound, or (recording, journal) not what its journal replays to. */
+    /* "Is the state sound"? */
     CUT_REFUSED_UNSOUND = 1,
-    /* "Is the zone count 2 to 8?" No: the zone count is not 2 to 8. */
+    /* "Is the zone count 2 to 8?" */
     CUT_REFUSED_ZONE_COUNT = 2,
-    /* "Are there as many stocks as zones?", or none. No: stocks are given, but not as many as zones. */
+    /* "Are there as many stocks as zones?", or none. */
     CUT_REFUSED_STOCK_COUNT = 3,
-    /* "Is their sum at most 65,535?" No: the stocks sum to more than 65,535. */
+    /* "Is their sum at most 65,535?" */
     CUT_REFUSED_STOCK_SUM = 4,
-    /* "Are the named zones on the site, and two named zones different?" No: a named zone is not on the site, or two named zones are the same. */
+    /* "Are the named zones on the site, and two named zones different?" */
     CUT_REFUSED_ZONE = 5,
-    /* "Are there fewer than 1,000 records?" No: 1,000 records (zone part: own events) are there. */
+    /* "Are there fewer than 1,000 records?" */
     CUT_REFUSED_RUN_FULL = 6,
-    /* "Does the sender's stock cover the cars?" At an exit: does the zone's? No: the sender's stock, or that of an exit's zone, does not
-     * cover the cars. */
+    /* "Does the sender's stock cover the cars?" At an exit: does the zone's? */
     CUT_REFUSED_STOCK_TOO_LOW = 7,
-    /* "Has the line a free place?" No: the line is full. */
+    /* "Has the line a free place?" */
     CUT_REFUSED_CHANNEL_FULL = 8,
-    /* "Does the line hold an item?" No: the line is empty. */
+    /* "Does the line hold an item?" */
     CUT_REFUSED_CHANNEL_EMPTY = 9,
-    /* "Has each line that must take a request a free place?" No: a line that must take a request is full. */
+    /* "Has each line that must take a request a free place?" */
     CUT_REFUSED_REQUEST_CHANNEL_FULL = 10,
-    /* "Has no recording been started?" No: a recording has been started (zone part: the zone has a mark). */
+    /* "Has no recording been started?" */
     CUT_REFUSED_STARTED = 11,
-    /* "Has one been started?" No: no recording has been started. */
+    /* "Has one been started?" */
     CUT_REFUSED_NOT_STARTED = 12,
-    /* "Is every line free of requests?" No: a request is still under way. */
+    /* "Is every line free of requests?" */
     CUT_REFUSED_REQUEST_UNDER_WAY = 13,
-    /* "Are the lent bytes enough?" No: too few bytes were lent. */
+    /* "Are the lent bytes enough?" */
     CUT_REFUSED_TOO_FEW_BYTES = 14,
-    /* "Has the journal two bytes and edition 1", 2 or 3? In an opening: is the edition that it names 1 to 3? At a gate: "does the run's
-     * edition have gates?" In a conversion, before reading: is the journal's edition the one that it converts from? No: the edition is not 1 to
-     * 3, or (gates) has none, or (conversion) is not the one converted from, or (reading) there is no header. */
+    /* "Has the journal two bytes and edition 1", 2 or 3? In an opening: is the edition that it names 1 to 3? At a gate: "does the run's edition
+     * have gates?" In a conversion, before reading: is the journal's edition the one that it converts from? */
     CUT_REFUSED_EDITION = 15,
-    /* "Is the zones field 1 to 7 and the record number at most 1,000?" No: the header's zones or records are out of range. */
+    /* "Is the zones field 1 to 7 and the record number at most 1,000?" */
     CUT_REFUSED_HEADER = 16,
-    /* "Is the length 2 + 2 x zones + 2 x records?" No: the length does not fit the header. */
+    /* "Is the length 2 + 2 x zones + 2 x records?" */
     CUT_REFUSED_LENGTH = 17,
-    /* "Is the record well formed (wrong zones alone meet 19)?" No: the record at the position is not well formed. */
+    /* "Is the record well formed (wrong zones alone meet 19)?" */
     CUT_REFUSED_RECORD_MALFORMED = 18,
-    /* "Is its call accepted?" No: the call of the record at the position is not accepted. */
+    /* "Is its call accepted?" */
     CUT_REFUSED_RECORD_CALL = 19,
-    /* "Does the zone's stock stay at or below 65,535?" No: the zone's stock would exceed 65,535 (zone part alone). */
+    /* "Does the zone's stock stay at or below 65,535?" */
     CUT_REFUSED_STOCK_TOO_HIGH = 20,
-    /* Do "stocks plus cars on lines" stay at or below 65,535 with the cars of an entry? No: an entry would lift stocks and cars on lines
-     * above 65,535. */
+    /* Do "stocks plus cars on lines" stay at or below 65,535 with the cars of an entry? */
     CUT_REFUSED_SUM_TOO_HIGH = 21,
-    /* Is the journal without "a hand-over of 0 cars"? No: the journal to be converted holds a hand-over of 0 cars. */
+    /* Is the journal without "a hand-over of 0 cars"? */
     CUT_REFUSED_NO_CARS = 22,
-    /* "On its way to edition 1": is the journal without "a gate record"? No: the journal to be converted to edition 1 holds a gate record. */
+    /* "On its way to edition 1": is the journal without "a gate record"? */
     CUT_REFUSED_GATE_RECORD = 23
 };
 
@@ -112,7 +109,7 @@ enum cut_mark_kind {
 extern "C" {
 #endif
 
-/* The words of a refusal, as README.md has them; for 0 and for a number that no call answers there are fixed words too, so that the answer is
+/* The words of a refusal, as docs/RULES.md has them; for 0 and for a number that no call answers there are fixed words too, so that the answer is
  * never null. It is a constant, to be freed by nobody. */
 static inline const char *cut_refusal_words(uint8_t refusal)
 {
