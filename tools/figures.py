@@ -1,26 +1,35 @@
 #!/usr/bin/env python3
-"""The figures of docs/PERFORMANCE.md: the proved code beside the second implementation, in one run.
+"""The other figures of docs/PERFORMANCE.md. With
 
-Run in the repository after .ci/run, whose programs it uses; needs valgrind and size. With the gate's log as argument it prints the gate's
-times by crate too.
+- no argument: the proved code beside the second implementation. Writes docs/performance/second.tsv, a row a case, and the part `second` of the
+  document;
+- `--sizes`: what the programs and libraries take. Writes the part `sizes`;
+- `--gate LOG`: seconds of each crate's proof and of its edits, from the gate's log. Writes docs/performance/gate.tsv and the part `gate`;
+- `--tables`: nothing is measured, and the parts `second` and `gate` are written from the data files; `--check` fails where the document has others.
+
+Run in the repository after .ci/run, whose programs it uses; needs valgrind and size.
 """
 import os
 import re
 import subprocess
 import sys
 import tempfile
+import textwrap
 import time
+
+sys.dont_write_bytecode = True  # no folder beside the scripts
+from speed import DATA, ENVIRONMENT, KEY, load, placed, save, table
 
 PROVED = "target/bin/cut_recorder"
 SECOND = "tests/second/target/release/record"
 CALLS = "tests/differential/target/release/calls"
 SITE = ["open", "send", "receive", "start", "write"]
-# glibc's memcpy and memset have one instruction for long copies, which callgrind would count byte by byte: kept out, for both alike.
-# The rest of the environment is left out, since its size moves the stack.
-ENVIRONMENT = {"GLIBC_TUNABLES": "glibc.cpu.x86_rep_movsb_threshold=1000000:glibc.cpu.x86_rep_stosb_threshold=1000000"}
 ZONE = ["zone-open", "zone-send", "zone-receive", "zone-request", "zone-start"]
 # Calls of an edition that has gates.
 GATES = ["enter", "leave", "zone-enter", "zone-leave"]
+# The cases that the document shows.
+SHOWN = [("program", "ring", 8, 10), ("program", "full", 8, 1000), ("read-record", "full", 8, 1000), ("send", "-", 8, 100),
+         ("zone-send", "-", 8, 100)]
 
 
 def record(kind, a, b=0, cars=0):
@@ -112,41 +121,38 @@ def written(folder, journal):
 
 
 def programs(folder):
-    print("| Lines | Zones | Records | Instructions, proved | Instructions, second | Time, proved | Time, second |")
-    print("|---|---|---|---|---|---|---|")
     for lines, zones, records, journal in JOURNALS:
         path = written(folder, journal)
         a, first = callgrind([PROVED], path)
         b, other = callgrind([SECOND], path)
         assert first == other and not first.startswith(b"refused"), (first, other)
-        times = [f"{1e6 * seconds(program, path):,.0f} µs" for program in (PROVED, SECOND)]
-        print(f"| {lines} | {zones} | {records:,} | {a:,} | {b:,} | {times[0]} | {times[1]} |")
-
-
-def row(label, values):
-    print("| " + " | ".join([label] + [f"{v:,}" for v in values]) + " |")
+        spent = [round(1e6 * seconds(program, path)) * 1000 for program in (PROVED, SECOND)]
+        yield ["program", lines, zones, records, a, b, *spent]
 
 
 def journals(folder):
-    print("\n| Call | Lines | Zones | Records | Instructions, proved | Instructions, second | ns, proved | ns, second |")
-    print("|---|---|---|---|---|---|---|---|")
     for name in ("read", "record", "read-record"):
         for lines, zones, records, journal in JOURNALS:
             path = written(folder, journal)
             a, b = call("proved", name, path, 10), call("second", name, path, 10)
-            row(f"{name} | {lines}", [zones, records, a[0], b[0], a[1], b[1]])
+            yield [name, lines, zones, records, a[0], b[0], a[1], b[1]]
 
 
 def single(folder):
     """Instructions alone: the time of a call less that of a copy would be a difference of two times that other work moves."""
-    print("\n| Call | Zones | Instructions, proved | Instructions, second |\n|---|---|---|---|")
     for zones in (2, 8):
         for edition, names in ((1, SITE + ZONE), (3, GATES)):
             path = written(folder, ring(zones, 100, complete=False, edition=edition))
             copies = {who: call(who, "copy", path)[0] for who in ("proved", "second")}
             for name in names:
                 taken = copies if name in ("send", "receive", "start", "enter", "leave") else dict.fromkeys(copies, 0)
-                row(name, [zones] + [call(who, name, path)[0] - taken[who] for who in copies])
+                yield [name, "-", zones, 100] + [call(who, name, path)[0] - taken[who] for who in copies] + ["-", "-"]
+
+
+def second(rows):
+    """The part of the document on the second implementation."""
+    head = ["Call", "Lines", "Zones", "Records", "Instructions, proved", "Instructions, second", "ns, proved", "ns, second"]
+    return table(head, [row[:2] + [f"{n:,}" if n != "-" else n for n in row[2:]] for row in rows if tuple(row[:4]) in SHOWN])
 
 
 def size(path):
@@ -162,32 +168,61 @@ def stack(folder):
     return max(int(n) for n in re.findall(r"mem_stacks_B=(\d+)", open(out).read()))
 
 
+def sizes(folder):
+    """The part of the document on sizes."""
+    shared = os.path.realpath("target/lib/libcut.so")
+    code = [("`cut_recorder`", PROVED), ("`cut_page`", "target/bin/cut_page"), ("`cut_convert`", "target/bin/cut_convert"),
+            ("the zone part for C", "target/staticlib/libzone_c.a"),
+            ("the site engine, journal, converter, recording and page for C", "target/staticlib/libsite_c.a")]
+    text = ("Bytes of code: " + ", ".join(f"{name} {size(path):,}" for name, path in code)
+            + f". `libcut.a` has {os.path.getsize('target/lib/libcut.a'):,} bytes, `{os.path.basename(shared)}` {os.path.getsize(shared):,}. "
+            + f"On 1,000 records `cut_recorder` uses at most {stack(folder):,} bytes of stack.")
+    return textwrap.wrap(text, 148)
+
+
 def gate(log):
-    """Seconds of each crate's proof and of its edits, from the gate's log."""
-    text = open(log).read()
-    proofs = {n: int(s) for n, s in re.findall(r"rt: (\w+) proved \((\d+) s\)", text)}
+    """A row a crate: the seconds of its proof, its edits and their seconds, from the gate's log."""
+    text = open(log, encoding="utf-8").read()
     edits = {}
-    for n, s in re.findall(r"rt: must-fail (\w+)/\w+: refused.*; (\d+) s\)", text):
-        edits.setdefault(n, []).append(int(s))
-    print("\n| Crate | Proof | Edits | All edits |\n|---|---|---|---|")
-    for n, s in proofs.items():
-        row(n, [s, len(edits.get(n, [])), sum(edits.get(n, []))])
+    for name, spent in re.findall(r"rt: must-fail (\w+)/\w+: refused.*; (\d+) s\)", text):
+        edits.setdefault(name, []).append(int(spent))
+    proofs = {name: int(spent) for name, spent in re.findall(r"rt: (\w+) proved \((\d+) s\)", text)}
+    return [[name, spent, len(edits.get(name, [])), sum(edits.get(name, []))] for name, spent in proofs.items()]
+
+
+def said(rows):
+    """The part of the document on the gate's times."""
+    proofs, count, edits = (sum(column) for column in list(zip(*rows))[1:])
+    most = sorted(rows, key=lambda row: -row[1] - row[3])[:6]
+    text = (f"Of that run the proofs of {len(rows)} crates add up to {proofs:,} s and their {count} must-fail edits to {edits:,} s; most, proof and "
+            f"edits together, take " + ", ".join(f"{name} {proof + all_edits} s" for name, proof, _, all_edits in most) + ".")
+    return textwrap.wrap(text, 148)
+
+
+def stored(name):
+    """The rows of a data file, numbers as such."""
+    return [[int(cell) if cell.isdigit() else cell for cell in row] for row in load(DATA / name)]
 
 
 def main():
+    arguments = sys.argv[1:]
+    if arguments in (["--tables"], ["--check"]):
+        placed({"second": second(stored("second.tsv")), "gate": said(stored("gate.tsv"))}, check=arguments == ["--check"])
+        return
+    if len(arguments) == 2 and arguments[0] == "--gate":
+        rows = gate(arguments[1])
+        save(DATA / "gate.tsv", ["crate", "proof", "edits", "all edits"], rows)
+        placed({"gate": said(rows)})
+        return
+    if arguments not in ([], ["--sizes"]):
+        sys.exit("usage: figures.py [--sizes | --gate LOG | --tables | --check]")
     with tempfile.TemporaryDirectory() as folder:
-        programs(folder)
-        journals(folder)
-        single(folder)
-        print("\n| Other figures | |\n|---|---|")
-        row("code of `cut_recorder`, bytes", [size(PROVED)])
-        row("code of `cut_page`, bytes", [size("target/bin/cut_page")])
-        row("code of `cut_convert`, bytes", [size("target/bin/cut_convert")])
-        row("code of the zone part for C, bytes", [size("target/staticlib/libzone_c.a")])
-        row("code of the site engine, journal, converter, recording and page for C, bytes", [size("target/staticlib/libsite_c.a")])
-        row("most stack used by `cut_recorder` on 1,000 records, bytes", [stack(folder)])
-    if len(sys.argv) == 2:
-        gate(sys.argv[1])
+        if arguments:
+            placed({"sizes": sizes(folder)})
+            return
+        rows = [*programs(folder), *journals(folder), *single(folder)]
+    save(DATA / "second.tsv", KEY + ["instructions proved", "instructions second", "ns proved", "ns second"], rows)
+    placed({"second": second(rows)})
 
 
 if __name__ == "__main__":

@@ -1,40 +1,97 @@
 #!/usr/bin/env python3
-"""The tables of docs/PERFORMANCE.md that set the proved code beside the peer written for speed (tests/speed), in one run.
+"""The proved code beside the peer written for speed (tests/speed), in one run.
 
-Run in the repository after .ci/run, or after `make`; needs valgrind and cargo. With
-`--before FILE` the tables get the figures of an earlier output as columns; FILE may be docs/PERFORMANCE.md.
+Writes docs/performance/peer.tsv, a row a case, and from it the parts of docs/PERFORMANCE.md, each between <!-- NAME --> and <!-- end -->: means,
+cases, growth. Prints what has changed since the data file that was there, or with `--before FILE` since that one. With `--tables` nothing is
+measured and the parts are written from the data file; with `--check` it fails where the document has others.
+
+Run in the repository after .ci/run, or after `make`; needs valgrind, cargo, git and rt.
 """
 import os
+import pathlib
 import re
 import statistics
 import subprocess
 import sys
 import tempfile
+import textwrap
+import typing
 
+ROOT = pathlib.Path(__file__).resolve().parent.parent
+DOCUMENT = ROOT / "docs" / "PERFORMANCE.md"
+DATA = ROOT / "docs" / "performance"
+PEER = DATA / "peer.tsv"
 SPEED = "tests/speed/target/release/speed"
 ROUNDS = 51
-RUNS = ["read", "record", "read-record", "write"]
-# What works on a whole run too, but is measured on the longest runs alone.
-PAGES = ["page", "read-page"]
-# The same, accepted and refused.
-CONVERSIONS = [f"{word}{refused}" for word in ("upgrade", "downgrade") for refused in ("", ", 22", ", 15")]
-CALLS = ["send", "receive", "start", "enter", "leave"]
-# The lines of whole runs; the last are of edition 3, with gates.
-LINES = [("ring", ("2", "4", "8")), ("full", ("2", "4", "8")), ("gates", ("2", "8"))]
-PARTS = [("read", "ring", "8", "1000"), ("record", "ring", "2", "10"), ("record", "ring", "8", "1000"), ("record", "full", "8", "1000"),
-         ("read-record", "full", "8", "1000"), ("page", "full", "8", "1000"), ("upgrade", "full", "8", "1000"), ("downgrade", "full", "8", "1000"),
-         ("write", "ring", "8", "1000"), ("send", "empty", "8", "99"), ("send", "full", "8", "854"),
-         ("read", "gates", "8", "1000"), ("record", "gates", "8", "1000"), ("enter", "empty", "8", "99"), ("leave", "empty", "8", "99")]
+# What works on whole runs; pages and conversions are measured on the longest runs alone.
+RUNS = ["read", "record", "read-record", "write", "page", "read-page"]
+CONVERSIONS = ["upgrade", "downgrade"]
+# The cases that the document shows, with the functions that take most of each.
+SHOWN = [("read", "ring", "8", "1000"), ("record", "ring", "2", "10"), ("record", "full", "8", "1000"), ("read-record", "full", "8", "1000"),
+         ("page", "full", "8", "1000"), ("upgrade", "full", "8", "1000"), ("write", "ring", "8", "1000"), ("send", "empty", "8", "99"),
+         ("send", "full", "8", "854"), ("enter", "empty", "8", "99")]
+# Calls and lines of which the document says what a record more and a zone more add.
+GROWING = [("read", "ring"), ("read", "gates"), ("record", "ring"), ("write", "ring"), ("send", "empty"), ("send", "full")]
 # Nanoseconds below which the time of a call cannot be told from that of measuring, so that a ratio would mean nothing.
 LEAST_NS = 5
-KEY = ["Call", "Lines", "Zones", "Records"]
-PROVED, PEER, BEFORE = "Instructions, proved", "Instructions, peer", "Instructions before"
-# Times of different runs are not set beside each other, only their ratios: the machine may have done other work meanwhile.
-RATIO_NS, BEFORE_NS = "Ratio of ns", "Ratio of ns before"
+KEY = ["call", "lines", "zones", "records"]
+COLUMNS = KEY + ["instructions proved", "instructions peer", "ns proved", "ns peer", "functions"]
 # glibc's memcpy and memset have one instruction for long copies, which callgrind would count byte by byte: kept out, for both alike.
 # The rest of the environment is left out, since its size moves the stack.
 ENVIRONMENT = {"GLIBC_TUNABLES": "glibc.cpu.x86_rep_movsb_threshold=1000000:glibc.cpu.x86_rep_stosb_threshold=1000000"}
 
+
+class Case(typing.NamedTuple):
+    """What one call takes, of the proved code and of the peer; the functions of the proved code that take most, with their own instructions."""
+    proved: int
+    peer: int
+    ns: float
+    peer_ns: float
+    functions: str
+
+    def ratio_ns(self):
+        """The ratio of times, where it means something."""
+        return self.ns / self.peer_ns if self.peer_ns >= LEAST_NS else None
+
+
+# Data files and the parts of the document, for tools/figures.py too.
+
+def output(*command):
+    return subprocess.run(command, cwd=ROOT, capture_output=True, check=True, text=True).stdout.strip()
+
+
+def save(path, columns, rows):
+    """Writes a data file: which code and toolchain it is of, the columns' names, the rows."""
+    changed = " with changes" if output("git", "status", "--porcelain", "crates", "c", "tests") else ""
+    head = f"# The code of {output('git', 'rev-parse', '--short=7', 'HEAD')}{changed}, {output('rt', 'version')}."
+    path.write_text("\n".join([head, "\t".join(columns)] + ["\t".join(map(str, row)) for row in rows]) + "\n", encoding="utf-8")
+
+
+def load(path):
+    """The rows of a data file."""
+    lines = [line for line in pathlib.Path(path).read_text(encoding="utf-8").splitlines() if not line.startswith("#")]
+    return [line.split("\t") for line in lines[1:]]
+
+
+def table(head, rows):
+    return ["| " + " | ".join(head) + " |", "|" + "---|" * len(head)] + ["| " + " | ".join(row) + " |" for row in rows]
+
+
+def placed(parts, check=False):
+    """Writes the parts of the document, or fails where it has others."""
+    text = new = DOCUMENT.read_text(encoding="utf-8")
+    for name, lines in parts.items():
+        before, mark, rest = new.partition(f"<!-- {name} -->\n")
+        _, end, behind = rest.partition("<!-- end -->\n")
+        if not mark or not end:
+            sys.exit(f"docs/PERFORMANCE.md has no part {name}")
+        new = before + mark + "\n".join(lines) + "\n" + end + behind
+    if check and new != text:
+        sys.exit("docs/PERFORMANCE.md does not show what docs/performance has: run tools/speed.py and tools/figures.py with --tables")
+    DOCUMENT.write_text(new, encoding="utf-8")
+
+
+# Measuring.
 
 def own(text):
     """By function: its own instructions in a file of callgrind's, without those of what it calls."""
@@ -63,7 +120,7 @@ def instructions():
         out = os.path.join(folder, "out")
         callgrind = ["valgrind", "-q", "--tool=callgrind", "--collect-atstart=no", "--toggle-collect=speed_once", "--dump-after=speed_once"]
         ran = subprocess.run(callgrind + [f"--callgrind-out-file={out}", SPEED, "count"], env={**ENVIRONMENT, "PATH": os.environ["PATH"]},
-                             capture_output=True, check=True, text=True)
+                             cwd=ROOT, capture_output=True, check=True, text=True)
         for number, line in enumerate(ran.stdout.splitlines(), 1):
             *label, who = line.split("\t")
             with open(f"{out}.{number}") as f:
@@ -76,154 +133,126 @@ def instructions():
 
 def times():
     """By label and by who: the nanoseconds of one call, the least median of ten passes."""
-    out = subprocess.run([SPEED, "time", str(ROUNDS)], capture_output=True, check=True, text=True).stdout
-    split = [line.split("\t") for line in out.splitlines()]
+    split = [line.split("\t") for line in output(SPEED, "time", str(ROUNDS)).splitlines()]
     return {(tuple(label), who): float(ns) for *label, who, ns in split}
 
 
-def cells(line):
-    return [cell.strip() for cell in line.strip().strip("|").split("|")]
+def places(ns):
+    """The places behind the point that a time beside a peer's of so many nanoseconds has."""
+    return 0 if ns >= 100 else 1
 
 
-def number(text):
-    return None if text == "-" else float(text.replace(",", ""))
+def kind(label):
+    """Whole runs first, then conversions, calls of the site and steps of the zone part."""
+    call = label[0].split(",")[0]
+    return 0 if call in RUNS else 1 if call in CONVERSIONS else 3 if call.startswith("zone ") else 2
 
 
-def earlier(path):
-    """By label: the proved code's instructions and the ratio of times in the tables of an earlier output, those before where it has
-    them."""
-    found, names = {}, []
-    with open(path) as f:
-        for line in f:
-            row = cells(line) if line.startswith("|") else []
-            if row[:4] == KEY and PEER in row:
-                names = row
-            elif row and len(row) == len(names) and not row[0].startswith("---"):
-                value = dict(zip(names, row))
-                label = tuple(row[:3]) + (row[3].replace(",", ""),)
-                found[label] = [number(value.get(name, value[other])) for name, other in ((BEFORE, PROVED), (BEFORE_NS, RATIO_NS))]
-            elif not row:
-                names = []
-    return found
+def measured():
+    """The cases, each with its label."""
+    subprocess.run(["cargo", "build", "--offline", "--release", "--quiet"], cwd=ROOT / "tests" / "speed", check=True)
+    (counts, functions), spent = instructions(), times()
+    cases = {}
+    for label in sorted(dict.fromkeys(label for label, _ in spent), key=kind):
+        most = sorted(functions[label].items(), key=lambda item: -item[1])[:4]
+        ns = [round(spent[label, who], places(spent[label, "peer"])) for who in ("proved", "peer")]
+        cases[label] = Case(counts[label, "proved"], counts[label, "peer"], *ns, ", ".join(f"{name} {n}" for name, n in most))
+    return cases
 
 
-def head(names):
-    print("\n| " + " | ".join(names) + " |\n|" + "---|" * len(names))
+def row(label, case):
+    """The row of a case in the data file."""
+    spent = [f"{ns:.{places(case.peer_ns)}f}" for ns in (case.ns, case.peer_ns)]
+    return [*label, case.proved, case.peer, *spent, case.functions]
 
 
-def row(values):
-    print("| " + " | ".join(values) + " |")
+def stored(path):
+    """The cases of a data file."""
+    return {tuple(row[:4]): Case(int(row[4]), int(row[5]), float(row[6]), float(row[7]), row[8]) for row in load(path)}
 
 
-def shown(value, places=0):
-    return "-" if value is None else f"{value:,.{places}f}"
-
-
-def over(value, other):
-    return None if value is None or other <= 0 else value / other
-
-
-def ratio(value, other):
-    return shown(over(value, other), 1)
-
+# The tables.
 
 def named(label):
-    """A call, and apart from it the same on a run with gates, so that the mean over editions 1 and 2 stays that of the same cases."""
-    return f"{label[0]}, gates" if label[1] == "gates" else label[0]
+    """What a case counts to: its call, apart from that the same on a run with gates, so that the mean over editions 1 and 2 stays that of the same
+    cases; the steps of the zone part are one."""
+    return "zone part" if kind(label) == 3 else f"{label[0]}, gates" if label[1] == "gates" else label[0]
 
 
 def mean(ratios):
     """The geometric mean, where all are there."""
-    return "-" if any(n is None or n <= 0 for n in ratios) else f"{statistics.geometric_mean(ratios):.2f}"
+    return "-" if None in ratios else f"{statistics.geometric_mean(ratios):.2f}"
 
 
-class Figures:
-    def __init__(self, before):
-        self.counts, self.functions = instructions()
-        self.times = times()
-        self.labels = list(dict.fromkeys(label for label, _ in self.times))
-        for label in before:
-            self.counts[label, "before"] = before[label][0]
-        self.before = before
-        self.who = (["before"] if before else []) + ["proved", "peer"]
-        self.old = len(self.who) - 2
+def means(cases):
+    """By name: how many cases there are, and the means of the ratios of instructions and of times."""
+    groups = {}
+    for label, case in cases.items():
+        groups.setdefault(named(label), []).append(case)
+    return {name: [str(len(group)), mean([case.proved / case.peer for case in group]), mean([case.ratio_ns() for case in group])]
+            for name, group in groups.items()}
 
-    def ratio_ns(self, label):
-        """The ratio of times, where it means something."""
-        proved, peer = self.times[label, "proved"], self.times[label, "peer"]
-        return proved / peer if peer >= LEAST_NS else None
 
-    def ratios_ns(self, label):
-        """That before, where there is one, and that of today."""
-        return [self.before.get(label, (None, None))[1]] * self.old + [self.ratio_ns(label)]
+def shown(label, case):
+    functions = re.sub(r"([^,\s][^,]*) (\d+)(?=,|$)", lambda found: f"`{found[1]}` {int(found[2]):,}", case.functions)
+    counts = [f"{n:,}" for n in (int(label[3]), case.proved, case.peer)]
+    spent = [f"{ns:,.{places(case.peer_ns)}f}" for ns in (case.ns, case.peer_ns)]
+    return list(label[:3]) + counts + [f"{case.proved / case.peer:.1f}"] + spent + [f"{case.ratio_ns():.1f}", functions]
 
-    def table(self, wanted):
-        """A row a label: instructions and nanoseconds, and their ratios to the peer's."""
-        head(KEY + [BEFORE] * self.old + [PROVED, PEER] + ["Ratio before"] * self.old + ["Ratio"]
-             + ["ns, proved", "ns, peer"] + [BEFORE_NS] * self.old + [RATIO_NS])
-        for label in filter(wanted, self.labels):
-            counts = [self.counts.get((label, who)) for who in self.who]
-            spent = [self.times[label, who] for who in ("proved", "peer")]
-            places = 0 if spent[1] >= 100 else 1
-            row(list(label[:3]) + [f"{int(label[3]):,}"] + [shown(n) for n in counts] + [ratio(n, counts[-1]) for n in counts[:-1]]
-                + [shown(ns, places) for ns in spent] + [shown(n, 1) for n in self.ratios_ns(label)])
 
-    def slopes(self, names, pairs, steps):
-        """A row a pair of labels: the instructions that a step from the first to the second adds."""
-        head(names + [who.capitalize() for who in self.who] + ["Ratio before"] * self.old + ["Ratio"])
-        for title, first, last in pairs:
-            ends = [[self.counts.get((label, who)) for label in (first, last)] for who in self.who]
-            added = [None if None in end else (end[1] - end[0]) / steps for end in ends]
-            row(title + [shown(n, 1) for n in added] + [ratio(n, added[-1]) for n in added[:-1]])
+def added(cases, labels, steps):
+    """The instructions that a step from the first case to the second adds, those of the peer in parentheses."""
+    first, last = (cases[label] for label in labels)
+    proved, peer = ((getattr(last, who) - getattr(first, who)) / steps for who in ("proved", "peer"))
+    return f"{labels[0][0]}, {labels[0][1]}: {proved:,.1f} ({peer:,.1f})"
 
-    def growth(self):
-        pairs = [([call, lines, zones], (call, lines, zones, "100"), (call, lines, zones, "1000"))
-                 for call in RUNS for lines, counts in LINES for zones in counts]
-        print("\nInstructions that a record more adds, from 100 to 1,000:")
-        self.slopes(["Call", "Lines", "Zones"], pairs, 900)
-        ends = {zones: [label for label in self.labels if label[2] == zones] for zones in ("2", "8")}
-        pairs = [([first[0], first[1]], first, last) for first in ends["2"] for last in ends["8"] if first[:2] == last[:2]
-                 and (first[1] in ("ring", "gates") and first[3] == last[3] == "1000" or first[0] in CALLS)]
-        print("\nInstructions that a zone more adds, from 2 to 8; whole runs of 1,000 records:")
-        self.slopes(["Call", "Lines"], pairs, 6)
 
-    def parts(self):
-        """The functions of the proved code that take most of a call."""
-        head(["Call", "Lines", "Zones", "Records", "Own instructions of the functions that take most"])
-        for label in PARTS:
-            most = sorted(self.functions[label].items(), key=lambda item: -item[1])[:4]
-            row(list(label[:3]) + [f"{int(label[3]):,}", ", ".join(f"`{name}` {n:,}" for name, n in most)])
+def growth(cases):
+    """What a record more and a zone more add, in lines of text."""
+    records = [added(cases, [(call, lines, "8", count) for count in ("100", "1000")], 900) for call, lines in GROWING if call in RUNS]
+    zones = [added(cases, [next(label for label in cases if label[:3] == (call, lines, count) and (call not in RUNS or label[3] == "1000"))
+                           for count in ("2", "8")], 6) for call, lines in GROWING]
+    text = (f"Instructions that a record more adds, from 100 to 1,000 with 8 zones, those of the peer in parentheses: {'; '.join(records)}. "
+            f"A zone more, from 2 to 8, whole runs with 1,000 records: {'; '.join(zones)}.")
+    return textwrap.wrap(text, 148)
 
-    def means(self):
-        head(["Call", "Cases"] + ["Instructions before / peer"] * self.old + ["Instructions, proved / peer"]
-             + [BEFORE_NS] * self.old + [RATIO_NS])
-        for call in dict.fromkeys(map(named, self.labels)):
-            labels = [label for label in self.labels if named(label) == call]
-            ratios = [[over(self.counts.get((label, who)), self.counts[label, "peer"]) for label in labels] for who in self.who[:-1]]
-            ratios += zip(*(self.ratios_ns(label) for label in labels))
-            row([call, str(len(labels))] + [mean(values) for values in ratios])
+
+def tables(cases):
+    """The parts of the document."""
+    found = means(cases)
+    rows = [[name, *row, *found.get(f"{name}, gates", "---")] for name, row in found.items() if int(row[0]) > 1 and not name.endswith(", gates")]
+    return {
+        "means": table(["Call", "Cases", "Instructions, proved / peer", "ns, proved / peer", "Cases with gates", "Instructions", "ns"], rows),
+        "cases": table(["Call", "Lines", "Zones", "Records", "Instructions, proved", "Instructions, peer", "Ratio", "ns, proved", "ns, peer",
+                        "Ratio of ns", "Own instructions of the functions that take most"], [shown(label, cases[label]) for label in SHOWN]),
+        "growth": growth(cases)}
+
+
+def differences(before, now):
+    """What has changed, in lines: the cases that take other instructions, and the means."""
+    both = [label for label in now if label in before]
+    moved = [label for label in both if now[label].proved != before[label].proved]
+    yield f"{len(both) - len(moved)} cases take just the instructions that they took, {len(moved)} others:"
+    for label in moved:
+        yield f"- {' '.join(label)}: {before[label].proved:,} before, {now[label].proved:,} now"
+    for text, these, those in (("new", now, before), ("gone", before, now)):
+        yield f"{text}: " + ("; ".join(" ".join(label) for label in these if label not in those) or "none")
+    old = means(before)
+    rows = [[name, row[0]] + [value for pair in zip(old.get(name, ["-"] * 3)[1:], row[1:]) for value in pair] for name, row in means(now).items()]
+    yield from table(["Call", "Cases", "Instructions before / peer", "Instructions / peer", "ns before / peer", "ns / peer"], rows)
 
 
 def main():
     arguments = sys.argv[1:]
+    if arguments in (["--tables"], ["--check"]):
+        placed(tables(stored(PEER)), check=arguments == ["--check"])
+        return
     if arguments and (len(arguments) != 2 or arguments[0] != "--before"):
-        sys.exit("usage: speed.py [--before FILE]")
-    before = earlier(arguments[1]) if arguments else {}
-    subprocess.run(["cargo", "build", "--offline", "--release", "--quiet"], cwd="tests/speed", check=True)
-    figures = Figures(before)
-    print("Geometric means of the ratios:")
-    figures.means()
-    print("\nWhole runs:")
-    figures.table(lambda label: label[0] in RUNS + PAGES)
-    figures.growth()
-    print("\nConversions; behind a comma the number of a refusal:")
-    figures.table(lambda label: label[0] in CONVERSIONS)
-    print("\nWhere the proved code's instructions go:")
-    figures.parts()
-    print("\nSingle calls of the site:")
-    figures.table(lambda label: label[0] not in RUNS + PAGES + CONVERSIONS and not label[0].startswith("zone"))
-    print("\nSteps of the zone part:")
-    figures.table(lambda label: label[0].startswith("zone"))
+        sys.exit("usage: speed.py [--before FILE | --tables | --check]")
+    before, now = stored(arguments[1] if arguments else PEER), measured()
+    save(PEER, COLUMNS, [row(label, case) for label, case in now.items()])
+    placed(tables(now))
+    print("\n".join(differences(before, now)))
 
 
 if __name__ == "__main__":
