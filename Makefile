@@ -15,7 +15,7 @@ RT ?= rt
 
 out := target/lib
 headers := $(wildcard c/cut/*.h)
-papers := docs/INTEGRATION.md docs/OPENING.md docs/PROGRAMS.md docs/RULES.md c/example.c c/desk.c c/fitter.c
+papers := docs/changes/versions.md docs/INTEGRATION.md docs/OPENING.md docs/PROGRAMS.md docs/RULES.md c/example.c c/desk.c c/fitter.c
 sources := crates.txt $(shell find crates -name '*.rt' -o -name '*.antt')
 version := $(shell sed -n 's/^.define CUT_VERSION "\(.*\)"/\1/p' c/cut/refusal.h)
 soname := libcut.so.$(firstword $(subst ., ,$(version)))

@@ -18,7 +18,7 @@ import textwrap
 import time
 
 sys.dont_write_bytecode = True  # no folder beside the scripts
-from speed import DATA, ENVIRONMENT, KEY, load, placed, save, table
+from speed import DATA, ENVIRONMENT, KEY, have_valgrind, load, placed, save, table
 
 PROVED = "target/bin/cut_recorder"
 SECOND = "tests/second/target/release/record"
@@ -216,6 +216,7 @@ def main():
         return
     if arguments not in ([], ["--sizes"]):
         sys.exit("usage: figures.py [--sizes | --gate LOG | --tables | --check]")
+    have_valgrind()
     with tempfile.TemporaryDirectory() as folder:
         if arguments:
             placed({"sizes": sizes(folder)})

@@ -10,6 +10,7 @@ Run in the repository after .ci/run, or after `make`; needs valgrind, cargo, git
 import os
 import pathlib
 import re
+import shutil
 import statistics
 import subprocess
 import sys
@@ -242,6 +243,12 @@ def differences(before, now):
     yield from table(["Call", "Cases", "Instructions before / peer", "Instructions / peer", "ns before / peer", "ns / peer"], rows)
 
 
+def have_valgrind():
+    """Ends with what installs it where it is missing."""
+    if not shutil.which("valgrind"):
+        sys.exit("This needs valgrind, on Debian: apt-get install -y valgrind")
+
+
 def main():
     arguments = sys.argv[1:]
     if arguments in (["--tables"], ["--check"]):
@@ -249,6 +256,7 @@ def main():
         return
     if arguments and (len(arguments) != 2 or arguments[0] != "--before"):
         sys.exit("usage: speed.py [--before FILE | --tables | --check]")
+    have_valgrind()
     before, now = stored(arguments[1] if arguments else PEER), measured()
     save(PEER, COLUMNS, [row(label, case) for label, case in now.items()])
     placed(tables(now))

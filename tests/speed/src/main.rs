@@ -3,8 +3,8 @@
 //! `speed compare` makes both do the same and compares every answer, with `--soak SECONDS` for so
 //! long. `speed time ROUNDS` prints the time of each call in nanoseconds. `speed count` makes
 //! each call once inside the function `speed_once`, for callgrind, and prints the calls in order;
-//! tools/speed.py runs both and prints tables. `speed journal ring|full|gates ZONES RECORDS` writes a
-//! journal that is measured to standard output.
+//! tools/speed.py runs both and writes docs/performance/peer.tsv. `speed journal ring|full|gates
+//! ZONES RECORDS` writes a journal that is measured to standard output.
 
 mod compare;
 mod measure;
