@@ -12,9 +12,11 @@ PKGCONFIGDIR ?= $(LIBDIR)/pkgconfig
 DOCDIR ?= $(PREFIX)/share/doc/cut
 INSTALL ?= install
 RT ?= rt
+CFLAGS ?= -O2
 
 out := target/lib
 headers := $(wildcard c/cut/*.h)
+calls := $(patsubst c/calls/%.c,$(out)/calls_%.o,$(wildcard c/calls/*.c))
 papers := docs/changes/versions.md docs/INTEGRATION.md docs/OPENING.md docs/PROGRAMS.md docs/RULES.md c/example.c c/desk.c c/fitter.c
 sources := crates.txt $(shell find crates -name '*.rt' -o -name '*.antt')
 version := $(shell sed -n 's/^.define CUT_VERSION "\(.*\)"/\1/p' c/cut/refusal.h)
@@ -26,19 +28,29 @@ shared := libcut.so.$(version)
 
 all: $(out)/libcut.a $(out)/$(shared) $(out)/libcut.so $(out)/cut.pc
 
-# Both archives hold one object, whose only global names are the calls of the headers. They are made one after the other, since each proves
-# what it rests on.
-$(out)/libcut.a: $(sources)
+# The proved code. Both archives hold one object, whose only global names are calls of the headers. They are made one after the other, since each
+# proves what it rests on.
+$(out)/proved.a: $(sources)
 	$(RT) staticlib zone_c
 	$(RT) staticlib site_c
 	rm -rf $(out)/parts && mkdir -p $(out)/parts
 	cd $(out)/parts && $(AR) x ../../staticlib/libzone_c.a && $(AR) x ../../staticlib/libsite_c.a
 	rm -f $@ && $(AR) rcsD $@ $(out)/parts/*.o && rm -r $(out)/parts
 
-# It has nothing to start or to end, so the compiler's start files are left out; every name is bound when it is loaded.
+# The calls that are inline in a program in C, for other languages. Each file is an object of its own, so that a linker takes the zone part without
+# the site engine.
+$(out)/calls_%.o: c/calls/%.c $(headers)
+	@mkdir -p $(out)
+	$(CC) -Ic $(CPPFLAGS) $(CFLAGS) -std=c11 -ffreestanding -fPIC -c $< -o $@
+
+$(out)/libcut.a: $(out)/proved.a $(calls)
+	cp $(out)/proved.a $@ && $(AR) rsD $@ $(calls)
+
+# It has nothing to start or to end, so the compiler's start files are left out; every name is bound when it is loaded, and where it calls itself,
+# to itself.
 $(out)/$(shared): $(out)/libcut.a c/cut.map
 	$(CC) $(LDFLAGS) -shared -nostartfiles -Wl,-soname,$(soname) -Wl,--version-script=c/cut.map -Wl,-z,defs,-z,relro,-z,now \
-	    -Wl,--whole-archive $(out)/libcut.a -Wl,--no-whole-archive -o $@
+	    -Wl,-Bsymbolic -Wl,--whole-archive $(out)/libcut.a -Wl,--no-whole-archive -o $@
 
 $(out)/libcut.so: $(out)/$(shared)
 	ln -sf $(shared) $(out)/$(soname)

@@ -50,6 +50,7 @@ int main()
     const std::string version =
         std::to_string(CUT_VERSION_MAJOR) + "." + std::to_string(CUT_VERSION_MINOR) + "." + std::to_string(CUT_VERSION_PATCH);
     must(version == CUT_VERSION, "the version is the same in numbers and in words");
+    must(cut_compatible() && cut_version() == CUT_VERSION_NUMBER, "the library is of the same version");
     std::printf("cut %s\n", CUT_VERSION);
     return 0;
 }

@@ -239,6 +239,7 @@ int main(void)
 {
     const uint16_t stocks[] = {10, 20, 30};
     uint8_t bytes[CUT_RECORDING_BYTES];
+    must(cut_compatible(), "the library has every call of the header");
     must(cut_open(&run, 1, 9, stocks, 3) == CUT_REFUSED_ZONE_COUNT, "9 zones are refused");
     accepted(cut_open(&run, 1, 3, stocks, 3), "the site opens");
     must(cut_record(&run, bytes, sizeof bytes).refusal == CUT_REFUSED_NOT_STARTED, "nothing was started");

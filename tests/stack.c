@@ -1,6 +1,7 @@
 /* The stack that each call of the headers uses, from a caller that is compiled with -O2: the call is made on a stack of its own, which was
  * painted before, and what is no longer paint was used. What a call is passed and what it answers stands in the caller's frame and is
- * counted. Prints a line a call: its name, the bytes used, and the bytes that the headers say are enough; exits 1 where these are fewer.
+ * counted. Prints a line a call: its name, the bytes used, and the bytes that the headers say are enough; exits 1 where these are fewer. The gate
+ * compiles it twice, so that the calls on a run are measured inline and as the library has them.
  *
  * The frames of the library have fixed sizes, and the runs and the zone below lead every call to its innermost function. Each call was made
  * before it is measured: at the first one of a function the dynamic linker may look for it on the caller's stack. */

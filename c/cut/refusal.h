@@ -8,11 +8,13 @@
 #include <stdint.h>
 
 /* The version of the calls and structs. The major number, which is the library's soname too, is raised when a program would have to be
- * changed or compiled anew. */
+ * changed or compiled anew, the minor number when something is added. As one number a version has two decimal digits for each of the last
+ * two. */
 #define CUT_VERSION_MAJOR 3
-#define CUT_VERSION_MINOR 3
+#define CUT_VERSION_MINOR 4
 #define CUT_VERSION_PATCH 0
-#define CUT_VERSION "3.3.0"
+#define CUT_VERSION "3.4.0"
+#define CUT_VERSION_NUMBER (10000 * CUT_VERSION_MAJOR + 100 * CUT_VERSION_MINOR + CUT_VERSION_PATCH)
 
 /* The first and the last "edition" of zones, runs, journals and recordings that this version knows. An opening that names another one and a
  * journal of another one are refused with 15, a zone or a run of another one with 1.
@@ -105,13 +107,32 @@ enum cut_mark_kind {
 #define CUT_ALIGNOF(type) _Alignof(type)
 #endif
 
+/* How a call that the headers themselves define is defined: inline in a program in C or C++. The library has these calls too, by the same text and
+ * under the same names, for programs in other languages; its sources define this as nothing before they include the header. */
+#ifndef CUT_INLINE
+#define CUT_INLINE static inline
+#endif
+
 #ifdef __cplusplus
 extern "C" {
 #endif
 
+/* The version of the library that the program runs with, as CUT_VERSION_NUMBER is that of the header. */
+uint32_t cut_version(void);
+
+/* Whether that library has every call of this header, 1 or 0: its major number is the same and its minor number not lower. It is for programs that
+ * may get header and library from different places. The dynamic linker starts no program on a libcut.so that lacks a call which the program makes:
+ * it names the version that is missing. A library before 3.4.0 has no versions, and not this call; there it names the call, at the start where
+ * the program is linked with -Wl,-z,now, as pkg-config says. */
+static inline uint8_t cut_compatible(void)
+{
+    uint32_t library = cut_version();
+    return library / 10000 == CUT_VERSION_MAJOR && library / 100 >= CUT_VERSION_NUMBER / 100;
+}
+
 /* The words of a refusal, as docs/RULES.md has them; for 0 and for a number that no call answers there are fixed words too, so that the answer is
  * never null. It is a constant, to be freed by nobody. */
-static inline const char *cut_refusal_words(uint8_t refusal)
+CUT_INLINE const char *cut_refusal_words(uint8_t refusal)
 {
     switch (refusal) {
     case CUT_ACCEPTED:

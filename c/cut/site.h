@@ -18,8 +18,9 @@
  * journal replays to under its edition. A call on any other run is refused with 1.
  *
  * The calls keep no state of their own, allocate nothing, never block and always return, so that threads may call at once on different runs;
- * cut_record, cut_page and cut_write only read theirs, and may share it. The header is C11 or C++11, the library for x86-64 with System V calls; of
- * the C library it uses memcpy and memset.
+ * cut_record, cut_page and cut_write only read theirs, and may share it. The calls on a cut_run are inline here; libcut has them under the same
+ * names too, so that other languages take no run apart. The header is C11 or C++11, the library for x86-64 with System V calls; of the C library
+ * it uses memcpy and memset.
  *
  * Whoever has a journal and wants its recording needs cut_journal_record alone, or cut_journal_page for its page, which a person reads; a
  * journal of any edition is read. Whoever wants one of edition 1 to be one of edition 3 needs cut_journal_upgrade, and cut_journal_downgrade back.
@@ -234,7 +235,7 @@ cut_written cut_journal_downgrade(const uint8_t *bytes, size_t size, uint8_t *ou
  * stocks may then be null, and what it names is read by nobody. Refused with: 15 the edition is not 1 to 3; 2 the count is not 2 to 8; 3 n is
  * neither the count nor 0; 4 the stocks sum to more than 65,535. Then *run is as it was. Stack: CUT_OPEN_STACK, of which the library's answer
  * takes 4,214 bytes. */
-static inline uint8_t cut_open(cut_run *run, uint8_t edition, uint8_t count, const uint16_t *stocks, size_t n)
+CUT_INLINE uint8_t cut_open(cut_run *run, uint8_t edition, uint8_t count, const uint16_t *stocks, size_t n)
 {
     /* The library is never passed a null pointer: without stocks it gets one to a word that it does not read. */
     static const uint16_t none = 0;
@@ -248,7 +249,7 @@ static inline uint8_t cut_open(cut_run *run, uint8_t edition, uint8_t count, con
  * its channel and a record and changes no zone. Refused with, a check too: 1 the run is not sound; 5 a zone is not on the site, or both are
  * the same; 6 there are 1,000 records; 7 the sender's stock does not cover the cars; 8 the channel ("line") is full. Stack:
  * CUT_CALL_STACK. */
-static inline uint8_t cut_send(cut_run *run, uint8_t from, uint8_t to, uint8_t cars)
+CUT_INLINE uint8_t cut_send(cut_run *run, uint8_t from, uint8_t to, uint8_t cars)
 {
     cut_head_answer t = cut_site_send(run->head, run->items, run->lens, run->journal, from, to, cars);
     if (t.refusal == CUT_ACCEPTED)
@@ -259,7 +260,7 @@ static inline uint8_t cut_send(cut_run *run, uint8_t from, uint8_t to, uint8_t c
 /* Receives the first item on the channel from one zone to another ("receipt"); a line check leaves its place, takes a record and changes no
  * zone. It also answers how many items remain on the channel. Refused with: 1; 5; 6; 9 the channel ("line") is empty; 10 a channel that must
  * take a request is full. Stack: CUT_CALL_STACK. */
-static inline cut_received cut_receive(cut_run *run, uint8_t from, uint8_t to)
+CUT_INLINE cut_received cut_receive(cut_run *run, uint8_t from, uint8_t to)
 {
     cut_head_answer t = cut_site_receive(run->head, run->items, run->lens, run->journal, from, to);
     cut_received got = {t.refusal, t.remaining};
@@ -270,7 +271,7 @@ static inline cut_received cut_receive(cut_run *run, uint8_t from, uint8_t to)
 
 /* Starts the recording ("start") with a zone as its initiator ("starter"). Refused with: 1; 5; 6; 11 a recording has been started; 10. Stack:
  * CUT_CALL_STACK. */
-static inline uint8_t cut_start(cut_run *run, uint8_t zone)
+CUT_INLINE uint8_t cut_start(cut_run *run, uint8_t zone)
 {
     cut_head_answer t = cut_site_start(run->head, run->items, run->lens, run->journal, zone);
     if (t.refusal == CUT_ACCEPTED)
@@ -281,7 +282,7 @@ static inline uint8_t cut_start(cut_run *run, uint8_t zone)
 /* Counts `cars` that drive in through a zone's gate ("entry"), from edition 3 on: its stock rises by them. One of 0 cars is an own event and
  * a record too. Refused with: 1; 15 the run's edition has no gates; 5; 6; 21 stocks and cars on channels ("lines") would be above 65,535
  * together. Stack: CUT_CALL_STACK. */
-static inline uint8_t cut_enter(cut_run *run, uint8_t zone, uint8_t cars)
+CUT_INLINE uint8_t cut_enter(cut_run *run, uint8_t zone, uint8_t cars)
 {
     cut_head_answer t = cut_site_enter(run->head, run->items, run->lens, run->journal, zone, cars);
     if (t.refusal == CUT_ACCEPTED)
@@ -291,7 +292,7 @@ static inline uint8_t cut_enter(cut_run *run, uint8_t zone, uint8_t cars)
 
 /* Counts `cars` that drive out through a zone's gate ("exit"), as cut_enter those that drive in: its stock falls by them. Refused with: 1; 15;
  * 5; 6; 7 the zone's stock does not cover the cars. Stack: CUT_CALL_STACK. */
-static inline uint8_t cut_leave(cut_run *run, uint8_t zone, uint8_t cars)
+CUT_INLINE uint8_t cut_leave(cut_run *run, uint8_t zone, uint8_t cars)
 {
     cut_head_answer t = cut_site_leave(run->head, run->items, run->lens, run->journal, zone, cars);
     if (t.refusal == CUT_ACCEPTED)
@@ -303,21 +304,21 @@ static inline uint8_t cut_leave(cut_run *run, uint8_t zone, uint8_t cars)
  * too, which is that of the opening plus the entries less the exits inside the recording, and may be above 65,535. Refused with: 1, also
  * where the run is not what its journal replays to; 12 no recording was started; 13 a request is still on a channel ("line"); 14 too few
  * bytes are lent. Stack: CUT_RECORD_STACK. */
-static inline cut_written cut_record(const cut_run *run, uint8_t *out, size_t size)
+CUT_INLINE cut_written cut_record(const cut_run *run, uint8_t *out, size_t size)
 {
     return cut_site_record(run->head, run->items, run->lens, run->journal, out, size);
 }
 
 /* Writes the page of the recording ("a page for the wall") to `size` bytes, as text; CUT_PAGE_BYTES are enough. Refused with: 1 as above; 12;
  * 13; 14 too few bytes are lent for the page. Stack: CUT_PAGE_STACK. */
-static inline cut_written cut_page(const cut_run *run, uint8_t *out, size_t size)
+CUT_INLINE cut_written cut_page(const cut_run *run, uint8_t *out, size_t size)
 {
     return cut_site_page(run->head, run->items, run->lens, run->journal, out, size);
 }
 
 /* Writes the run's journal ("journal writing") to `size` bytes; CUT_JOURNAL_BYTES are enough. Refused with: 1 as above; 14. Stack:
  * CUT_WRITE_STACK. */
-static inline cut_written cut_write(const cut_run *run, uint8_t *out, size_t size)
+CUT_INLINE cut_written cut_write(const cut_run *run, uint8_t *out, size_t size)
 {
     return cut_journal_write(run->head, run->items, run->lens, run->journal, out, size);
 }

@@ -29,9 +29,9 @@
 extern "C" {
 #endif
 
-/* Bytes of stack that are enough for any call of this header, with what it is passed and what it answers, from a caller compiled with -O2; the
- * gate measures them (tests/stack.c). With libcut.so the dynamic linker may use some thousand more at the first call of a function, unless
- * the program is linked with -Wl,-z,now. */
+/* Bytes of stack that are enough for any call of this header, with what it is passed and what it answers, from a caller compiled with -O2; they
+ * are measured. With libcut.so the dynamic linker may use some thousand more at the first call of a function, unless the program is linked with
+ * -Wl,-z,now, as pkg-config says. */
 #define CUT_ZONE_STACK 256
 
 /* What a checkpoint ("mark") keeps. 4 bytes, alignment 2. */
