@@ -2,7 +2,7 @@
 
 use crate::compare::Output;
 use crate::ffi::{self, PlainAnswer, PlainReading, PlainReceived, PlainRun, PlainWritten};
-use crate::header;
+use crate::header::{self, Calls};
 use crate::plain;
 use second::conversion::{convert, Conversion};
 use second::generate::edition_of;
@@ -46,24 +46,24 @@ pub fn proved(p: &PlainRun, call: Call) -> PlainAnswer {
     }
 }
 
-/// Makes a call by the header's inline function; that of a receipt alone tells how many items remain.
-pub fn by_header(p: &PlainRun, call: Call) -> PlainAnswer {
+/// Makes a call on a run as C has it; that of a receipt alone tells how many items remain.
+pub fn by_header(calls: &Calls, p: &PlainRun, call: Call) -> PlainAnswer {
     let (mut run, mut remaining) = (*p, 0);
     let refusal = match call {
-        Call::HandOver { from, to, cars } => header::send(&mut run, zone(from), zone(to), cars),
+        Call::HandOver { from, to, cars } => calls.send(&mut run, zone(from), zone(to), cars),
         Call::Receipt { from, to } => {
-            let received = header::receive(&mut run, zone(from), zone(to));
+            let received = calls.receive(&mut run, zone(from), zone(to));
             remaining = received.remaining;
             received.refusal
         }
-        Call::Start { zone: starter } => header::start(&mut run, zone(starter)),
+        Call::Start { zone: starter } => calls.start(&mut run, zone(starter)),
         Call::Gate {
             direction,
             zone: at,
             cars,
         } => match direction {
-            Direction::In => header::enter(&mut run, zone(at), cars),
-            Direction::Out => header::leave(&mut run, zone(at), cars),
+            Direction::In => calls.enter(&mut run, zone(at), cars),
+            Direction::Out => calls.leave(&mut run, zone(at), cars),
         },
     };
     PlainAnswer {

@@ -1,5 +1,5 @@
-/* The calls of c/cut/site.h that are inline functions, the conversions as it declares them, and sums over the fields of the headers' structs by
- * their names, so that the headers themselves are compared. */
+/* The calls of c/cut/site.h as a program has them, inline, the conversions as it declares them, the words of the refusals, and sums
+ * over the fields of the headers' structs by their names, so that the headers themselves are compared. */
 #include <stddef.h>
 
 /* The header's cut_open calls the function below, which then calls the library's. */
@@ -78,6 +78,21 @@ cut_written header_upgrade(const uint8_t *bytes, size_t size, uint8_t *out, size
 cut_written header_downgrade(const uint8_t *bytes, size_t size, uint8_t *out, size_t room)
 {
     return cut_journal_downgrade(bytes, size, out, room);
+}
+
+const char *header_refusal_words(uint8_t refusal)
+{
+    return cut_refusal_words(refusal);
+}
+
+uint8_t header_compatible(void)
+{
+    return cut_compatible();
+}
+
+uint32_t header_version(void)
+{
+    return CUT_VERSION_NUMBER;
 }
 
 static uint64_t add(uint64_t sum, uint64_t value)

@@ -1,32 +1,80 @@
-//! The calls of the C headers: the inline functions of c/cut/site.h, which take the parts of a run to
-//! the library and back, the conversions as it declares them, and sums over the fields of the structs
-//! by the names that C has.
+//! The calls of the C headers: those on a run, which take its parts to the library's functions and back,
+//! inline in a program in C and as the library has them for other languages, the conversions as they are
+//! declared, and sums over the fields of the structs by the names that C has.
 
 use crate::ffi::{
     PlainAnswer, PlainHeadAnswer, PlainOpening, PlainReading, PlainReceived, PlainRun, PlainStep,
     PlainWritten,
 };
+use std::ffi::{c_char, CStr};
+
+type Gate = unsafe extern "C" fn(*mut PlainRun, u8, u8) -> u8;
+type Writer = unsafe extern "C" fn(*const PlainRun, *mut u8, usize) -> PlainWritten;
+
+/// The calls on a run.
+pub struct Calls {
+    open: unsafe extern "C" fn(*mut PlainRun, u8, u8, *const u16, usize) -> u8,
+    send: unsafe extern "C" fn(*mut PlainRun, u8, u8, u8) -> u8,
+    receive: unsafe extern "C" fn(*mut PlainRun, u8, u8) -> PlainReceived,
+    start: unsafe extern "C" fn(*mut PlainRun, u8) -> u8,
+    enter: Gate,
+    leave: Gate,
+    record: Writer,
+    page: Writer,
+    write: Writer,
+}
+
+/// The calls whose names in C begin with a word.
+macro_rules! calls {
+    ($word:literal) => {{
+        extern "C" {
+            #[link_name = concat!($word, "_open")]
+            fn open(run: *mut PlainRun, edition: u8, count: u8, stocks: *const u16, n: usize)
+                -> u8;
+            #[link_name = concat!($word, "_send")]
+            fn send(run: *mut PlainRun, from: u8, to: u8, cars: u8) -> u8;
+            #[link_name = concat!($word, "_receive")]
+            fn receive(run: *mut PlainRun, from: u8, to: u8) -> PlainReceived;
+            #[link_name = concat!($word, "_start")]
+            fn start(run: *mut PlainRun, zone: u8) -> u8;
+            #[link_name = concat!($word, "_enter")]
+            fn enter(run: *mut PlainRun, zone: u8, cars: u8) -> u8;
+            #[link_name = concat!($word, "_leave")]
+            fn leave(run: *mut PlainRun, zone: u8, cars: u8) -> u8;
+            #[link_name = concat!($word, "_record")]
+            fn record(run: *const PlainRun, out: *mut u8, size: usize) -> PlainWritten;
+            #[link_name = concat!($word, "_page")]
+            fn page(run: *const PlainRun, out: *mut u8, size: usize) -> PlainWritten;
+            #[link_name = concat!($word, "_write")]
+            fn write(run: *const PlainRun, out: *mut u8, size: usize) -> PlainWritten;
+        }
+        Calls {
+            open,
+            send,
+            receive,
+            start,
+            enter,
+            leave,
+            record,
+            page,
+            write,
+        }
+    }};
+}
+
+/// The calls inline in a program, in src/header.c, and those that the library has under their own names.
+pub const CALLS: [Calls; 2] = [calls!("header"), calls!("cut")];
 
 mod raw {
     use super::*;
 
     extern "C" {
-        pub fn header_open(
-            run: *mut PlainRun,
-            edition: u8,
-            count: u8,
-            stocks: *const u16,
-            n: usize,
-        ) -> u8;
-        pub fn header_send(run: *mut PlainRun, from: u8, to: u8, cars: u8) -> u8;
-        pub fn header_receive(run: *mut PlainRun, from: u8, to: u8) -> PlainReceived;
-        pub fn header_start(run: *mut PlainRun, zone: u8) -> u8;
-        pub fn header_enter(run: *mut PlainRun, zone: u8, cars: u8) -> u8;
-        pub fn header_leave(run: *mut PlainRun, zone: u8, cars: u8) -> u8;
-        pub fn header_record(run: *const PlainRun, out: *mut u8, size: usize) -> PlainWritten;
-        pub fn header_page(run: *const PlainRun, out: *mut u8, size: usize) -> PlainWritten;
         pub fn header_page_bytes() -> usize;
-        pub fn header_write(run: *const PlainRun, out: *mut u8, size: usize) -> PlainWritten;
+        pub fn header_refusal_words(refusal: u8) -> *const c_char;
+        pub fn cut_refusal_words(refusal: u8) -> *const c_char;
+        pub fn header_compatible() -> u8;
+        pub fn header_version() -> u32;
+        pub fn cut_version() -> u32;
         pub fn header_upgrade(
             bytes: *const u8,
             size: usize,
@@ -52,40 +100,46 @@ mod raw {
 // Each pointer is that of a Rust reference or slice, but for the null one that an opening without stocks
 // may have, so the calls are safe.
 
-pub fn open(run: &mut PlainRun, edition: u8, count: u8, stocks: &[u16]) -> u8 {
-    unsafe { raw::header_open(run, edition, count, stocks.as_ptr(), stocks.len()) }
-}
+impl Calls {
+    pub fn open(&self, run: &mut PlainRun, edition: u8, count: u8, stocks: &[u16]) -> u8 {
+        unsafe { (self.open)(run, edition, count, stocks.as_ptr(), stocks.len()) }
+    }
 
-pub fn open_null(run: &mut PlainRun, edition: u8, count: u8) -> u8 {
-    unsafe { raw::header_open(run, edition, count, std::ptr::null(), 0) }
-}
+    pub fn open_null(&self, run: &mut PlainRun, edition: u8, count: u8) -> u8 {
+        unsafe { (self.open)(run, edition, count, std::ptr::null(), 0) }
+    }
 
-pub fn send(run: &mut PlainRun, from: u8, to: u8, cars: u8) -> u8 {
-    unsafe { raw::header_send(run, from, to, cars) }
-}
+    pub fn send(&self, run: &mut PlainRun, from: u8, to: u8, cars: u8) -> u8 {
+        unsafe { (self.send)(run, from, to, cars) }
+    }
 
-pub fn receive(run: &mut PlainRun, from: u8, to: u8) -> PlainReceived {
-    unsafe { raw::header_receive(run, from, to) }
-}
+    pub fn receive(&self, run: &mut PlainRun, from: u8, to: u8) -> PlainReceived {
+        unsafe { (self.receive)(run, from, to) }
+    }
 
-pub fn start(run: &mut PlainRun, zone: u8) -> u8 {
-    unsafe { raw::header_start(run, zone) }
-}
+    pub fn start(&self, run: &mut PlainRun, zone: u8) -> u8 {
+        unsafe { (self.start)(run, zone) }
+    }
 
-pub fn enter(run: &mut PlainRun, zone: u8, cars: u8) -> u8 {
-    unsafe { raw::header_enter(run, zone, cars) }
-}
+    pub fn enter(&self, run: &mut PlainRun, zone: u8, cars: u8) -> u8 {
+        unsafe { (self.enter)(run, zone, cars) }
+    }
 
-pub fn leave(run: &mut PlainRun, zone: u8, cars: u8) -> u8 {
-    unsafe { raw::header_leave(run, zone, cars) }
-}
+    pub fn leave(&self, run: &mut PlainRun, zone: u8, cars: u8) -> u8 {
+        unsafe { (self.leave)(run, zone, cars) }
+    }
 
-pub fn record(run: &PlainRun, out: &mut [u8]) -> PlainWritten {
-    unsafe { raw::header_record(run, out.as_mut_ptr(), out.len()) }
-}
+    pub fn record(&self, run: &PlainRun, out: &mut [u8]) -> PlainWritten {
+        unsafe { (self.record)(run, out.as_mut_ptr(), out.len()) }
+    }
 
-pub fn page(run: &PlainRun, out: &mut [u8]) -> PlainWritten {
-    unsafe { raw::header_page(run, out.as_mut_ptr(), out.len()) }
+    pub fn page(&self, run: &PlainRun, out: &mut [u8]) -> PlainWritten {
+        unsafe { (self.page)(run, out.as_mut_ptr(), out.len()) }
+    }
+
+    pub fn write(&self, run: &PlainRun, out: &mut [u8]) -> PlainWritten {
+        unsafe { (self.write)(run, out.as_mut_ptr(), out.len()) }
+    }
 }
 
 /// As many bytes as the header says are enough for any page.
@@ -93,8 +147,16 @@ pub fn page_bytes() -> usize {
     unsafe { raw::header_page_bytes() }
 }
 
-pub fn write(run: &PlainRun, out: &mut [u8]) -> PlainWritten {
-    unsafe { raw::header_write(run, out.as_mut_ptr(), out.len()) }
+/// The words of a refusal, inline in a program and by the library.
+pub fn refusal_words(refusal: u8) -> [&'static CStr; 2] {
+    let of = [raw::header_refusal_words, raw::cut_refusal_words];
+    of.map(|words| unsafe { CStr::from_ptr(words(refusal)) })
+}
+
+/// Whether the library has every call of the header, as this asks; the versions of both.
+pub fn versions() -> (bool, u32, u32) {
+    let compatible = unsafe { raw::header_compatible() } == 1;
+    unsafe { (compatible, raw::header_version(), raw::cut_version()) }
 }
 
 pub fn upgrade(bytes: &[u8], out: &mut [u8]) -> PlainWritten {

@@ -4,7 +4,7 @@ use crate::compare::{one, Difference};
 use crate::count::{Check, Counts, Entry, Failure, Found, Gate, Receipt};
 use crate::expect::{self, Made, Writings};
 use crate::ffi::{self, PlainAnswer, PlainReading, PlainRun, PlainWritten};
-use crate::header;
+use crate::header::{self, Calls};
 use crate::plain;
 use crate::text;
 use second::demand3::{self, Lines, Seen};
@@ -51,11 +51,13 @@ pub fn open(
     let compared = counts.same(Entry::SiteOpen, named, &expected, &proved);
     counts.opening(named, stocks, expected.refusal);
     let compared = compared.and_then(|()| {
-        let open = |run: &mut PlainRun| header::open(run, edition, count, stocks);
-        opened_by_header(counts, &expected, open)?;
-        if stocks.is_empty() {
-            let open = |run: &mut PlainRun| header::open_null(run, edition, count);
+        for calls in &header::CALLS {
+            let open = |run: &mut PlainRun| calls.open(run, edition, count, stocks);
             opened_by_header(counts, &expected, open)?;
+            if stocks.is_empty() {
+                let open = |run: &mut PlainRun| calls.open_null(run, edition, count);
+                opened_by_header(counts, &expected, open)?;
+            }
         }
         Ok(())
     });
@@ -64,7 +66,7 @@ pub fn open(
     Ok((run, proved.run))
 }
 
-/// Compares the header's opening on a struct full of other values, which a refused opening leaves as it was.
+/// Compares C's opening on a struct full of other values, which a refused opening leaves as it was.
 fn opened_by_header(
     counts: &mut Counts,
     answer: &PlainAnswer,
@@ -179,14 +181,19 @@ pub fn call(
 ) -> Result<PlainAnswer, Found> {
     let proved = expect::proved(p, call);
     counts.same(entry(call), u32::from(p.edition), expected, &proved)?;
-    counts.equal(entry(call), expected, &expect::by_header(p, call))?;
+    for calls in &header::CALLS {
+        let by_header = expect::by_header(calls, p, call);
+        counts.equal(entry(call), expected, &by_header)?;
+    }
     count_gate(counts, p, call, proved.refusal);
     count_receipt(counts, p, call, &proved);
     Ok(proved)
 }
 
-/// A call that writes what it makes of a run into lent bytes, and the same of a journal.
+/// A call that writes what it makes of a run into lent bytes, the same among C's calls on a run, and the
+/// same of a journal.
 type Writer = fn(&PlainRun, &mut [u8]) -> PlainWritten;
+type HeaderWriter = fn(&Calls, &PlainRun, &mut [u8]) -> PlainWritten;
 pub type JournalWriter = fn(&[u8], &mut [u8]) -> PlainWritten;
 
 /// The bytes that are lent to a call, of several lengths.
@@ -197,39 +204,41 @@ fn lents(random: &mut Random, entry: Entry, made: &Made) -> Vec<Vec<u8>> {
     }
 }
 
-/// Compares all that is written of one struct, by the library and by the headers' inline calls.
+/// Compares all that is written of one struct, by the proved code and by C's calls on a run.
 pub fn writers(
     counts: &mut Counts,
     random: &mut Random,
     p: &PlainRun,
     writings: &Writings,
 ) -> Result<(), Found> {
-    let calls: [(Entry, &Made, Writer, Writer); 3] = [
+    let writers: [(Entry, &Made, Writer, HeaderWriter); 3] = [
         (
             Entry::SiteRecord,
             &writings.recording,
             ffi::cut_site_record,
-            header::record,
+            Calls::record,
         ),
         (
             Entry::SitePage,
             &writings.page,
             ffi::cut_site_page,
-            header::page,
+            Calls::page,
         ),
         (
             Entry::JournalWrite,
             &writings.journal,
             ffi::cut_journal_write,
-            header::write,
+            Calls::write,
         ),
     ];
-    for (entry, made, library, inline) in calls {
+    for (entry, made, library, write) in writers {
         for lent in lents(random, entry, made) {
             let proved = expect::written(&lent, |out| library(p, out));
             counts.same(entry, u32::from(p.edition), &made.output(&lent), &proved)?;
-            let by_header = expect::written(&lent, |out| inline(p, out));
-            counts.equal(entry, &proved, &by_header)?;
+            for calls in &header::CALLS {
+                let by_header = expect::written(&lent, |out| write(calls, p, out));
+                counts.equal(entry, &proved, &by_header)?;
+            }
         }
     }
     counts.page(&writings.page.bytes);

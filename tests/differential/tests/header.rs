@@ -1,4 +1,5 @@
-//! The C headers name the same fields as the structs that the proved code is called with.
+//! The C headers name the same fields as the structs that the proved code is called with, and are of the
+//! library's version.
 
 use differential::ffi::{
     self, PlainAnswer, PlainHeadAnswer, PlainOpening, PlainReading, PlainReceived, PlainRun,
@@ -172,4 +173,16 @@ fn a_changed_field_changes_the_sum() {
     let mut answer = ffi::cut_site_open(1, 3, &[10, 20, 30]);
     answer.run.edition += 1;
     assert_ne!(answer.sum(), before);
+}
+
+#[test]
+fn the_library_has_the_headers_words_and_version() {
+    for refusal in 0..=u8::MAX {
+        let [inline, exported] = header::refusal_words(refusal);
+        assert_eq!(inline, exported, "refusal {refusal}");
+    }
+    assert_ne!(header::refusal_words(0), header::refusal_words(1));
+    let (compatible, of_header, of_library) = header::versions();
+    assert!(compatible);
+    assert_eq!(of_header, of_library);
 }
