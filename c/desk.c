@@ -1,6 +1,6 @@
 /* A control room's desk: a whole run of three zones with 10, 20 and 30 cars, from the opening to the recording's bytes and its page, then the same
- * from the journal alone, line checks, street entrances, a sign controller, empty sites and journals converted to another edition. Prints the
- * recording with its total, and the page; exits 1 if a value is not as it must be. */
+ * from the journal alone, the recording's words taken apart, line checks, street entrances, a sign controller, empty sites and journals converted to
+ * another edition. Prints the recording with its total, and the page; exits 1 if a value is not as it must be. */
 #include <inttypes.h>
 #include <stdio.h>
 #include <stdlib.h>
@@ -62,14 +62,29 @@ static void damaged(void)
     must(r.refusal == CUT_REFUSED_RECORD_CALL && r.position == 3 && r.run.head.count == 2, "a wrong record is refused with its position");
 }
 
+/* Words of the recording, of the journal and of a line by their parts: zone 1 is firm with 2 events and 4 cars, and 2 cars are on the way from 1
+ * to 3; the fifth record is the start by 2; 5 cars wait on the line from 3 to 2. */
+static void taken_apart(void)
+{
+    uint16_t header = cut_word_at(recording), zone = cut_word_at(recording + 2);
+    must(cut_header_edition(header) == 1 && cut_header_zones(header) == 3 && cut_header_number(header) == 1, "three zones and an item");
+    must(cut_shown_permanent(zone) && cut_shown_events(zone) == 2 && cut_word_at(recording + 4) == 4, "zone 1 is firm");
+    uint16_t item = cut_word_at(recording + 2 + 4 * cut_header_zones(header));
+    must(cut_record_kind(item) == CUT_KIND_MESSAGE && cut_record_first(item) == 1 && cut_record_second(item) == 3, "the item is from 1 to 3");
+    must(cut_record_cars(item) == 2, "of 2 cars");
+    must(cut_record_kind(run.journal[4]) == CUT_KIND_START && cut_record_first(run.journal[4]) == 2, "2 has started");
+    uint16_t waits = run.items[CUT_PLACES * (CUT_ZONES_MAX * (3 - 1) + (2 - 1))];
+    must(!cut_item_is_request(waits) && cut_item_cars(waits) == 5 && cut_item_flag(waits) == 0, "5 cars wait, without the marked bit");
+}
+
 /* What nobody looks at may hold anything: the last place of the channel ("line") from 1 to 2, the channel from 1 to itself, zone 4. But a word
  * above 767 among a channel's items is refused, and so is a mark above 2 at any index. */
 static void unlooked(void)
 {
     uint8_t bytes[CUT_RECORDING_BYTES];
     cut_run other = run;
-    other.items[CUT_PLACES + CUT_PLACES - 1] = 768;
-    other.items[0] = 768;
+    other.items[CUT_PLACES + CUT_PLACES - 1] = CUT_ITEM_MAX + 1;
+    other.items[0] = CUT_ITEM_MAX + 1;
     other.lens[0] = 200;
     other.head.zones[3].stock = 65535;
     other.head.opening[3] = 65535;
@@ -98,7 +113,7 @@ static void checked(void)
         accepted(cut_receive(&other, 1, 2).refusal, "2 takes them");
         accepted(cut_start(&other, 2), "2 starts");
         cut_written w = cut_record(&other, bytes, sizeof bytes);
-        shown[0] = (uint8_t)(32 * edition + 4);
+        shown[0] = (uint8_t)((CUT_HEADER_EDITION * edition + CUT_HEADER_ZONES * (2 - 1)) / 256);
         if (edition == 1)
             must(w.refusal == CUT_REFUSED_REQUEST_UNDER_WAY, "1 is asked to take part");
         else
@@ -220,11 +235,12 @@ static void converted(void)
     newer[sizeof journal] = 0xEE;
     cut_written w = cut_journal_upgrade(journal, sizeof journal, newer, sizeof newer);
     must(w.refusal == CUT_ACCEPTED && w.written == sizeof journal, "the journal is converted");
-    must(newer[0] == 0x68 && memcmp(newer + 1, journal + 1, sizeof journal - 1) == 0, "only its edition changes");
+    must(cut_header_edition(cut_word_at(newer)) == 3 && memcmp(newer + 1, journal + 1, sizeof journal - 1) == 0, "only its edition changes");
     must(newer[sizeof journal] == 0xEE, "and nothing behind it");
     w = cut_journal_record(newer, sizeof journal, bytes, sizeof bytes);
     must(w.refusal == CUT_ACCEPTED && w.written == sizeof recording && w.total == 60, "its recording is written");
-    must(bytes[0] == 0x68 && memcmp(bytes + 1, recording + 1, sizeof recording - 1) == 0, "and shows the same in edition 3");
+    must(cut_header_edition(cut_word_at(bytes)) == 3, "in edition 3");
+    must(memcmp(bytes + 1, recording + 1, sizeof recording - 1) == 0, "and shows the same");
     accepted(cut_journal_downgrade(newer, sizeof journal, older, sizeof older).refusal, "it is converted back");
     must(memcmp(older, journal, sizeof journal) == 0, "to the same bytes");
     must(cut_journal_upgrade(newer, sizeof journal, older, sizeof older).refusal == CUT_REFUSED_EDITION, "edition 3 is not converted from 1");
@@ -260,6 +276,7 @@ int main(void)
     must(memcmp(bytes, recording, sizeof recording) == 0, "it is the same");
     must(cut_journal_record(journal, sizeof journal - 1, bytes, sizeof bytes).refusal == CUT_REFUSED_LENGTH, "a cut journal is refused");
     damaged();
+    taken_apart();
     unlooked();
     checked();
     counted();

@@ -25,7 +25,7 @@
  * Whoever has a journal and wants its recording needs cut_journal_record alone, or cut_journal_page for its page, which a person reads; a
  * journal of any edition is read. Whoever wants one of edition 1 to be one of edition 3 needs cut_journal_upgrade, and cut_journal_downgrade back.
  *
- * Journal and recording are 16-bit words, high byte first.
+ * Journal and recording are 16-bit words, high byte first; cut_word_at and the functions behind it take them apart.
  * Journal: edition * 8192 + (zones - 1) * 1024 + number of records; the opening stock of each zone; a word a record:
  *     kind * 16384 + (first zone - 1) * 2048 + (second zone - 1) * 256 + cars
  * with kind 0 a message ("hand-over") from first to second, kind 1 a "receipt" on that channel (cars 0), kind 2 a "start" by the first (both
@@ -102,13 +102,8 @@ typedef struct cut_head {
 /* A "run". 4,212 bytes, alignment 2.
  *
  * The channel ("line") from zone a to zone b has number n = 8 * (a - 1) + (b - 1); lens[n] items are on it, the first at items[16 * n], the
- * next behind it. An item is a word:
- *     0 to 255    a message ("hand-over") of so many cars, with the flag ("marked bit") 0
- *     256 to 511  a message of word - 256 cars, with the flag 1
- *     512 to 767  a "request" with the set word - 512
- *     above 767   a request too; its set, word - 512, names a zone that no site has
- * A run is refused with 1 where an item on a channel of its site is a request that names a zone which the site does not have, so always
- * where it is above 767.
+ * next behind it. An item is a word, as <cut/zone.h> says. A run is refused with 1 where an item on a channel of its site is a request that
+ * names a zone which the site does not have, so always where its word is above CUT_ITEM_MAX.
  *
  * Looked at by nobody: the places of a channel behind its items; all places and the length of a channel that the site does not have, from a
  * zone to itself or with a zone above count; the record words behind the last. Anything may stand there. Opening writes 0 there, and a
@@ -175,6 +170,96 @@ CUT_STATIC_ASSERT(offsetof(cut_written, written) == 16, "the layout that the lib
 CUT_STATIC_ASSERT(CUT_JOURNAL_BYTES == 2 + 2 * CUT_ZONES_MAX + 2 * CUT_RECORDS_MAX, "a word a zone and a word a record");
 CUT_STATIC_ASSERT(CUT_RECORDING_BYTES == 2 + 4 * CUT_ZONES_MAX + 2 * CUT_RECORDS_MAX, "two words a zone, and no more items than records");
 CUT_STATIC_ASSERT(CUT_PAGE_BYTES == 17 * (CUT_ZONES_MAX + CUT_ZONES_MAX * (CUT_ZONES_MAX - 1) + 1), "a line a zone, a line a channel, the total");
+
+/* The kinds of a record's word. */
+enum cut_kind {
+    CUT_KIND_MESSAGE = 0, /* a message ("hand-over") from the first zone to the second */
+    CUT_KIND_RECEIPT = 1, /* a "receipt" on the channel ("line") from the first zone to the second */
+    CUT_KIND_START = 2,   /* a "start" by the first zone */
+    CUT_KIND_GATE = 3     /* cars at a gate of the first zone, from edition 3 on */
+};
+
+/* The directions through a gate, which stand in its record in the place of the second zone less 1. */
+enum cut_direction {
+    CUT_DIRECTION_IN = 0, /* "entry" */
+    CUT_DIRECTION_OUT = 1 /* "exit" */
+};
+
+/* What the parts of a word weigh: of a header, which a journal and a recording begin with, the edition and the zones less 1, beside the number of
+ * records or items; of a record the kind, the first zone less 1, and the second zone less 1 or the direction, beside the cars; of a zone's first
+ * word in a recording that the zone is permanent ("firm"), beside its events. */
+#define CUT_HEADER_EDITION 8192
+#define CUT_HEADER_ZONES 1024
+#define CUT_RECORD_KIND 16384
+#define CUT_RECORD_FIRST 2048
+#define CUT_RECORD_SECOND 256
+#define CUT_SHOWN_PERMANENT 32768
+
+/* The word that two bytes of a journal or a recording are. */
+static inline uint16_t cut_word_at(const uint8_t *bytes)
+{
+    return (uint16_t)(256 * bytes[0] + bytes[1]);
+}
+
+/* The edition that a header names, 0 to 7. */
+static inline uint8_t cut_header_edition(uint16_t header)
+{
+    return (uint8_t)(header / CUT_HEADER_EDITION);
+}
+
+/* The zones that a header names, 1 to 8. */
+static inline uint8_t cut_header_zones(uint16_t header)
+{
+    return (uint8_t)(header % CUT_HEADER_EDITION / CUT_HEADER_ZONES + 1);
+}
+
+/* The number of records or items that a header names, 0 to 1,023. */
+static inline uint16_t cut_header_number(uint16_t header)
+{
+    return header % CUT_HEADER_ZONES;
+}
+
+/* The kind of a record, an enum cut_kind. */
+static inline uint8_t cut_record_kind(uint16_t record)
+{
+    return (uint8_t)(record / CUT_RECORD_KIND);
+}
+
+/* The first zone of a record, 1 to 8. */
+static inline uint8_t cut_record_first(uint16_t record)
+{
+    return (uint8_t)(record % CUT_RECORD_KIND / CUT_RECORD_FIRST + 1);
+}
+
+/* The second zone of a message or a receipt, 1 to 8. */
+static inline uint8_t cut_record_second(uint16_t record)
+{
+    return (uint8_t)(record % CUT_RECORD_FIRST / CUT_RECORD_SECOND + 1);
+}
+
+/* The direction of a gate's record, an enum cut_direction; above 1 the record is not well formed. */
+static inline uint8_t cut_record_direction(uint16_t record)
+{
+    return (uint8_t)(record % CUT_RECORD_FIRST / CUT_RECORD_SECOND);
+}
+
+/* The cars of a record. */
+static inline uint8_t cut_record_cars(uint16_t record)
+{
+    return (uint8_t)(record % CUT_RECORD_SECOND);
+}
+
+/* Whether a zone is permanent ("firm") by its first word in a recording, 1 or 0. */
+static inline uint8_t cut_shown_permanent(uint16_t shown)
+{
+    return shown >= CUT_SHOWN_PERMANENT;
+}
+
+/* The events of a zone by that word. */
+static inline uint16_t cut_shown_events(uint16_t shown)
+{
+    return shown % CUT_SHOWN_PERMANENT;
+}
 
 /* The library's functions over the parts of a run: its head by value (100 bytes) and its arrays by pointer (1,024 words, 64 bytes and 1,000
  * words). Programs use the calls on a cut_run below them, which take the same and say what is refused. */

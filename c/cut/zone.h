@@ -75,6 +75,41 @@ CUT_STATIC_ASSERT(offsetof(cut_zone, edition) == 3 && offsetof(cut_zone, saved) 
                   "the layout that the library has");
 CUT_STATIC_ASSERT(offsetof(cut_opening, refusal) == 16 && offsetof(cut_step, carried) == 19, "the layout that the library has");
 
+/* An item as a word of 16 bits, on the lines of a site and on a wire between controllers, there high byte first:
+ *     0 to 255    a message ("hand-over") of so many cars, with the flag ("marked bit") 0
+ *     256 to 511  a message of word - 256 cars, with the flag 1
+ *     512 to 767  a "request" with the set word - 512
+ *     above 767   a request too; its set, word - 512, names a zone that no site has
+ * So it is CUT_ITEM_FLAG * flag + cars, or CUT_ITEM_REQUEST + set. */
+#define CUT_ITEM_FLAG 256
+#define CUT_ITEM_REQUEST 512
+#define CUT_ITEM_MAX 767
+
+/* Whether an item is a request, 1 or 0. */
+static inline uint8_t cut_item_is_request(uint16_t item)
+{
+    return item >= CUT_ITEM_REQUEST;
+}
+
+/* The cars of a message; of a request 0. */
+static inline uint8_t cut_item_cars(uint16_t item)
+{
+    return (uint8_t)(item < CUT_ITEM_REQUEST ? item % CUT_ITEM_FLAG : 0);
+}
+
+/* The flag of a message, 1 or 0; of a request 0. */
+static inline uint8_t cut_item_flag(uint16_t item)
+{
+    return item >= CUT_ITEM_FLAG && item < CUT_ITEM_REQUEST;
+}
+
+/* The set of a request, above 255 where it names a zone that no site has: ask that before it is passed to cut_zone_request, which takes 8 bits. Of
+ * a message 0. */
+static inline uint16_t cut_item_set(uint16_t item)
+{
+    return (uint16_t)(item >= CUT_ITEM_REQUEST ? item - CUT_ITEM_REQUEST : 0);
+}
+
 /* Opens zone `number` of `count` under an edition ("opening one zone"). Refused with: 15 the edition is not 1 to 3; 2 the count is not 2 to 8;
  * 5 the number is not 1 to count. Stack: CUT_ZONE_STACK. */
 cut_opening cut_zone_open(uint8_t edition, uint8_t count, uint8_t number, uint16_t stock);

@@ -1,5 +1,5 @@
-/* The calls of c/cut/site.h as a program has them, inline, the conversions as it declares them, the words of the refusals, and sums
- * over the fields of the headers' structs by their names, so that the headers themselves are compared. */
+/* The calls of c/cut/site.h as a program has them, inline, the conversions as it declares them, the words of the refusals, the parts of words, and
+ * sums over the fields of the headers' structs by their names, so that the headers themselves are compared. */
 #include <stddef.h>
 
 /* The header's cut_open calls the function below, which then calls the library's. */
@@ -93,6 +93,54 @@ uint8_t header_compatible(void)
 uint32_t header_version(void)
 {
     return CUT_VERSION_NUMBER;
+}
+
+/* The kinds of a record and the directions through a gate, in the order of docs/RULES.md. */
+const uint8_t header_kinds[] = {CUT_KIND_MESSAGE, CUT_KIND_RECEIPT, CUT_KIND_START, CUT_KIND_GATE};
+const uint8_t header_directions[] = {CUT_DIRECTION_IN, CUT_DIRECTION_OUT};
+
+/* The parts of a word: as an item, as a header, as a record and as a zone's first word in a recording. */
+typedef struct {
+    uint16_t is_request, is_above, cars, flag, set;
+    uint16_t edition, zones, number;
+    uint16_t kind, first, second, direction, record_cars;
+    uint16_t permanent, events;
+} word_parts;
+
+word_parts header_parts(const uint8_t *bytes)
+{
+    uint16_t word = cut_word_at(bytes);
+    return (word_parts){
+        .is_request = cut_item_is_request(word),
+        .is_above = word > CUT_ITEM_MAX,
+        .cars = cut_item_cars(word),
+        .flag = cut_item_flag(word),
+        .set = cut_item_set(word),
+        .edition = cut_header_edition(word),
+        .zones = cut_header_zones(word),
+        .number = cut_header_number(word),
+        .kind = cut_record_kind(word),
+        .first = cut_record_first(word),
+        .second = cut_record_second(word),
+        .direction = cut_record_direction(word),
+        .record_cars = cut_record_cars(word),
+        .permanent = cut_shown_permanent(word),
+        .events = cut_shown_events(word),
+    };
+}
+
+/* The four words of parts, by the names of what these weigh. */
+typedef struct {
+    uint16_t item, header, record, shown;
+} part_words;
+
+part_words header_words(const word_parts *of)
+{
+    int item = of->is_request ? CUT_ITEM_REQUEST + of->set : CUT_ITEM_FLAG * of->flag + of->cars;
+    int header = CUT_HEADER_EDITION * of->edition + CUT_HEADER_ZONES * (of->zones - 1) + of->number;
+    int record = CUT_RECORD_KIND * of->kind + CUT_RECORD_FIRST * (of->first - 1) + CUT_RECORD_SECOND * of->direction + of->record_cars;
+    int shown = CUT_SHOWN_PERMANENT * of->permanent + of->events;
+    return (part_words){(uint16_t)item, (uint16_t)header, (uint16_t)record, (uint16_t)shown};
 }
 
 static uint64_t add(uint64_t sum, uint64_t value)

@@ -1,6 +1,6 @@
 //! The calls of the C headers: those on a run, which take its parts to the library's functions and back,
 //! inline in a program in C and as the library has them for other languages, the conversions as they are
-//! declared, and sums over the fields of the structs by the names that C has.
+//! declared, the parts of words, and sums over the fields of the structs by the names that C has.
 
 use crate::ffi::{
     PlainAnswer, PlainHeadAnswer, PlainOpening, PlainReading, PlainReceived, PlainRun, PlainStep,
@@ -65,6 +65,38 @@ macro_rules! calls {
 /// The calls inline in a program, in src/header.c, and those that the library has under their own names.
 pub const CALLS: [Calls; 2] = [calls!("header"), calls!("cut")];
 
+/// The parts of a word that the headers' functions give: as an item, as a header, as a record and as a
+/// zone's first word in a recording.
+#[repr(C)]
+#[derive(Clone, Copy, Debug, PartialEq, Eq)]
+pub struct WordParts {
+    pub is_request: u16,
+    pub is_above: u16,
+    pub cars: u16,
+    pub flag: u16,
+    pub set: u16,
+    pub edition: u16,
+    pub zones: u16,
+    pub number: u16,
+    pub kind: u16,
+    pub first: u16,
+    pub second: u16,
+    pub direction: u16,
+    pub record_cars: u16,
+    pub permanent: u16,
+    pub events: u16,
+}
+
+/// The words that the headers' names of what parts weigh make of such parts.
+#[repr(C)]
+#[derive(Clone, Copy, Debug, PartialEq, Eq)]
+pub struct PartWords {
+    pub item: u16,
+    pub header: u16,
+    pub record: u16,
+    pub shown: u16,
+}
+
 mod raw {
     use super::*;
 
@@ -75,6 +107,10 @@ mod raw {
         pub fn header_compatible() -> u8;
         pub fn header_version() -> u32;
         pub fn cut_version() -> u32;
+        pub static header_kinds: [u8; 4];
+        pub static header_directions: [u8; 2];
+        pub fn header_parts(bytes: *const u8) -> WordParts;
+        pub fn header_words(of: *const WordParts) -> PartWords;
         pub fn header_upgrade(
             bytes: *const u8,
             size: usize,
@@ -157,6 +193,19 @@ pub fn refusal_words(refusal: u8) -> [&'static CStr; 2] {
 pub fn versions() -> (bool, u32, u32) {
     let compatible = unsafe { raw::header_compatible() } == 1;
     unsafe { (compatible, raw::header_version(), raw::cut_version()) }
+}
+
+/// The numbers of the kinds of a record, hand-over, receipt, start and gate, and of the directions.
+pub fn kinds() -> ([u8; 4], [u8; 2]) {
+    unsafe { (raw::header_kinds, raw::header_directions) }
+}
+
+pub fn parts(bytes: [u8; 2]) -> WordParts {
+    unsafe { raw::header_parts(bytes.as_ptr()) }
+}
+
+pub fn words(parts: &WordParts) -> PartWords {
+    unsafe { raw::header_words(parts) }
 }
 
 pub fn upgrade(bytes: &[u8], out: &mut [u8]) -> PlainWritten {

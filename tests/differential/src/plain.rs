@@ -140,7 +140,7 @@ pub fn plain_zone(zone: &Zone) -> PlainZone {
 }
 
 /// The item of a word, or nothing above 767: a request whose set names a zone that no site has.
-fn item_of(word: u16) -> Option<Item> {
+pub fn item_of(word: u16) -> Option<Item> {
     let low = (word % 256) as u8;
     match word / 256 {
         0 | 1 => Some(Item::HandOver {

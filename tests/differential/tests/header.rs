@@ -1,14 +1,15 @@
-//! The C headers name the same fields as the structs that the proved code is called with, and are of the
-//! library's version.
+//! The C headers name the same fields as the structs that the proved code is called with, take words apart
+//! as the second implementation does, and are of the library's version.
 
 use differential::ffi::{
     self, PlainAnswer, PlainHeadAnswer, PlainOpening, PlainReading, PlainReceived, PlainRun,
     PlainSaved, PlainStep, PlainWritten, PlainZone,
 };
-use differential::header::{self, Summed};
-use differential::plain::ZEROS;
-use second::page;
+use differential::header::{self, PartWords, Summed, WordParts};
+use differential::plain::{item_of, ZEROS};
 use second::random::Random;
+use second::site::{Call, Direction, Item};
+use second::{demand3, journal, page};
 
 fn add(sum: u64, value: impl Into<u64>) -> u64 {
     sum.wrapping_mul(1_000_003)
@@ -185,4 +186,89 @@ fn the_library_has_the_headers_words_and_version() {
     let (compatible, of_header, of_library) = header::versions();
     assert!(compatible);
     assert_eq!(of_header, of_library);
+}
+
+/// Holds the parts of an item to the second implementation's item.
+fn same_item(word: u16, parts: &WordParts) {
+    let is_request = u16::from(!matches!(item_of(word), Some(Item::HandOver { .. })));
+    let (is_above, cars, flag, set) = match item_of(word) {
+        Some(Item::HandOver { cars, marked }) => (0, cars.into(), marked.into(), 0),
+        Some(Item::Request { set }) => (0, 0, 0, set.into()),
+        None => (1, 0, 0, word - 512),
+    };
+    let of_item = (parts.is_request, parts.is_above, parts.cars, parts.flag);
+    assert_eq!(of_item, (is_request, is_above, cars, flag), "item {word}");
+    assert_eq!(parts.set, set, "item {word}");
+}
+
+/// Holds the parts of a record to the second implementation's call, where the word is well formed in an
+/// edition that has all kinds.
+fn same_record(word: u16, parts: &WordParts) -> bool {
+    let Some(call) = journal::decode(3, word) else {
+        return false;
+    };
+    let (kinds, [inwards, outwards]) = header::kinds();
+    // The second zone and the direction stand in one place, of which a start makes no use.
+    let (zone, direction) = (u32::from(parts.second), parts.direction);
+    let (kind, first, is_second, cars) = match call {
+        Call::HandOver { from, to, cars } => (kinds[0], from, zone == to, cars),
+        Call::Receipt { from, to } => (kinds[1], from, zone == to, 0),
+        Call::Start { zone } => (kinds[2], zone, true, 0),
+        Call::Gate {
+            direction: Direction::In,
+            zone,
+            cars,
+        } => (kinds[3], zone, direction == inwards.into(), cars),
+        Call::Gate {
+            direction: Direction::Out,
+            zone,
+            cars,
+        } => (kinds[3], zone, direction == outwards.into(), cars),
+    };
+    assert!(is_second, "record {word}");
+    assert_eq!(parts.kind, kind.into(), "record {word}");
+    assert_eq!(u32::from(parts.first), first, "record {word}");
+    assert_eq!(parts.record_cars, cars.into(), "record {word}");
+    true
+}
+
+/// Holds the parts of a zone's first word in a recording to what the second implementation reads there,
+/// where the word is one.
+fn same_shown(word: u16, parts: &WordParts) -> bool {
+    let recording = [journal::header(1, 2, 0), word, 7, 0, 0];
+    let Some(shown) = demand3::parse(1, 2, &journal::bytes_of(&recording)) else {
+        return false;
+    };
+    assert_eq!(parts.permanent == 1, shown.firm[0], "zone's word {word}");
+    assert_eq!(u32::from(parts.events), shown.events[0]);
+    true
+}
+
+#[test]
+fn words_have_the_same_parts() {
+    let (mut records, mut shown) = (0, 0);
+    for word in 0..=u16::MAX {
+        let parts = header::parts(word.to_be_bytes());
+        same_item(word, &parts);
+        records += u32::from(same_record(word, &parts));
+        shown += u32::from(same_shown(word, &parts));
+        let (edition, zones) = (u32::from(parts.edition), u32::from(parts.zones));
+        let number = usize::from(parts.number);
+        assert!(edition < 8 && (1..=8).contains(&zones) && number < 1_024);
+        assert_eq!(journal::header(edition, zones, number), word);
+        assert!(parts.kind < 4 && (1..=8).contains(&parts.first) && parts.record_cars < 256);
+        assert!(parts.direction < 8 && parts.second == parts.direction + 1);
+        assert!(parts.permanent < 2 && parts.events < 32_768);
+        let again = PartWords {
+            item: word,
+            header: word,
+            record: word,
+            shown: word,
+        };
+        assert_eq!(header::words(&parts), again, "word {word}");
+    }
+    // Well formed are every hand-over, the receipts, the starts, and the gates of two directions; shown
+    // are up to 1,023 events, firm or not.
+    assert_eq!(records, 16_384 + 64 + 8 + 2 * 8 * 256);
+    assert_eq!(shown, 2 * 1_024);
 }
