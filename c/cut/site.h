@@ -308,12 +308,12 @@ cut_written cut_journal_page(const uint8_t *bytes, size_t size, uint8_t *out, si
 /* Converts a journal of `size` bytes from edition 1 to edition 3 and writes it to `room` bytes, of which it needs `size`; CUT_JOURNAL_BYTES are
  * enough. Only the edition in its header changes; what is written is accepted by reading, and its recording shows the same zones, stocks and
  * channels ("lines"), its page the same text. Whether a recording was started or is complete is not asked. Refused with: 15 the journal's
- * edition is not 1; then reading's numbers; then 22 it holds a message ("hand-over") of 0 cars; 14 too few bytes are lent. Stack:
- * CUT_JOURNAL_CONVERT_STACK. */
+ * edition is not 1; then reading's numbers; then 22 it holds a message ("hand-over") of 0 cars; 14 too few bytes are lent. The bytes that are
+ * lent must be others than the journal's: it is not converted in place. Stack: CUT_JOURNAL_CONVERT_STACK. */
 cut_written cut_journal_upgrade(const uint8_t *bytes, size_t size, uint8_t *out, size_t room);
 
-/* The same from edition 3 to edition 1. Refused with: 15 the journal's edition is not 3; then reading's numbers; then 22, as above; then 23 it
- * holds a record of a gate, which edition 1 does not have; 14. Stack: CUT_JOURNAL_CONVERT_STACK. */
+/* The same from edition 3 to edition 1, and as little in place. Refused with: 15 the journal's edition is not 3; then reading's numbers; then 22,
+ * as above; then 23 it holds a record of a gate, which edition 1 does not have; 14. Stack: CUT_JOURNAL_CONVERT_STACK. */
 cut_written cut_journal_downgrade(const uint8_t *bytes, size_t size, uint8_t *out, size_t room);
 
 /* Opens a site of `count` zones with their n stocks under an edition ("open"). Where n is 0 it opens an empty one, with stock 0 in every zone:
