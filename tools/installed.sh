@@ -20,6 +20,7 @@ make --silent install PREFIX="$prefix" LIBDIR="$prefix/lib" INCLUDEDIR="$prefix/
     DOCDIR="$prefix/share/doc/cut" DESTDIR=
 make --silent install PREFIX=/usr LIBDIR=/usr/lib64 INCLUDEDIR=/usr/include PKGCONFIGDIR=/usr/lib64/pkgconfig \
     DOCDIR=/usr/share/doc/cut DESTDIR="$scratch/stage"
+python3 tools/installed_docs.py "$prefix" || fail "What is installed names a file that is not there."
 installed "$prefix" >"$scratch/plain"
 installed "$scratch/stage/usr" | sed 's|^./lib64/|./lib/|' | sort >"$scratch/staged"
 cmp "$scratch/plain" "$scratch/staged" || fail "make install writes other files with DESTDIR."
