@@ -50,6 +50,20 @@ outside-join shown n [] m = let q : n (owner m) + 0 ≡ n (owner m) = omega arit
 outside-join shown n (x ∷ ms) m =
     rw (outside-join shown (counted n x) ms m, bump (eqb (owner m) (owner x)) (n (owner m)) (own (owner m) ms), cons-append)
 
+-- Moves behind those that count every zone's own events up to what is shown of it are not inside.
+none-later : (shown n : ℕ → ℕ) (ms : List Move) → ((k : ℕ) → shown k ≤ n k) → insideFrom shown n ms ≡ []
+none-later shown n [] h = refl
+none-later shown n (m ∷ ms) h =
+    rw (le-ltb (n (owner m)) (shown (owner m)) (h (owner m)))
+    (none-later shown (counted n m) ms (λ k. on-keeps (λ (c : ℕ). shown k ≤ c) (eqb k (owner m)) suc (n k) (λ q. omega arith) (h k)))
+
+pub inside-later : (shown n : ℕ → ℕ) (xs ys : List Move) → ((k : ℕ) → shown k ≤ n k + own k xs)
+    → insideFrom shown n (xs ++ ys) ≡ insideFrom shown n xs
+inside-later shown n [] ys h = none-later shown n ys (λ k. omega (arith, h k))
+inside-later shown n (x ∷ xs) ys h =
+    ap (cons-if (ltb (n (owner x)) (shown (owner x))) x)
+    (inside-later shown (counted n x) xs ys (λ k. omega (arith, h k, bump (eqb k (owner x)) (n k) (own k xs))))
+
 -- The events that a checkpoint keeps.
 abbrev pub eventsAt : Checkpoint → ℕ
 eventsAt None = 0
