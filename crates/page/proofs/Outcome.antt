@@ -1,5 +1,5 @@
--- What a page call comes to: a refusal that leaves the lent bytes, or a page that fits them.
-use mathlib.Core.Path.{_≡_, refl, ap}
+-- What a page call comes to: a refusal that leaves the lent bytes, or a page that fits them; and the same of two runs with the same recording.
+use mathlib.Core.Path.{_≡_, refl, _∙_, ap, ap₂}
 use mathlib.Core.Bool.{Bool, true, false, cond}
 use mathlib.Core.Logic.{_≢_, _⊎_, inl, inr}
 use mathlib.Core.List.{List, [], _∷_}
@@ -7,13 +7,18 @@ use Prim.Native.Nat.{ℕ, _≤_}
 use lib.Dec.{eqb}
 use lib.ListN.{length}
 use borrow.Author.Tests.{leb-true, eqb-false}
-use Rattle.rules.specs.Questions.{Question, Among}
+use Rattle.rules.specs.Cut.{Snapshot}
+use Rattle.rules.specs.Questions.{Question, ask, Among}
 use Rattle.rules.proofs.AskLaws.{AllYes, numbers, not-among, ask-cases}
 use Rattle.run.specs.declared.Run.{Run}
+use Rattle.run.specs.declared.Terms.{Terms}
 use Rattle.journal.specs.Reading.{readCall}
 use Rattle.journal.specs.Writing.{refusedOutput, writtenOutput, PositionedOutput, positioned}
+use Rattle.recording.specs.Call.{recordingQuestions}
+use Rattle.recording.proofs.Stays.{SameRecording, same-questions}
 use Rattle.page.specs.Call.{pageOf, pageQuestions, pageCall}
 use Rattle.page.specs.Journal.{pageJournal}
+use Rattle.page.specs.Layout.{pageText}
 
 -- The answer is a refusal: beside it nothing is written.
 pub record Refused (lent : List ℕ) (position : ℕ) (o : PositionedOutput) : Type 0 where
@@ -56,3 +61,10 @@ journal-outcome journal lent = go (eqb (readCall journal .refusal) 0) refl (run-
     go true e (inr h) = inr h
     go false e h =
         inl (readCall journal .position, record { number = readCall journal .refusal; some = eqb-false (readCall journal .refusal) 0 e; output = refl })
+
+pub same-page : (r t : Run) → SameRecording r t → (lent : List ℕ) → pageCall t lent ≡ pageCall r lent
+unfolding pageCall
+same-page r t same lent =
+    ap (λ (qs : List Question). ask qs (refusedOutput lent) (writtenOutput lent (pageOf t))) (same-questions r t same (pageOf t) lent)
+    ∙ ap (λ (text : List ℕ). ask (recordingQuestions r text lent) (refusedOutput lent) (writtenOutput lent text))
+    (ap₂ (λ (x : Terms) (y : Snapshot). pageText (x .count) y) (same .terms) (same .shown))

@@ -3,6 +3,7 @@ pub mod Chain
 pub mod Link
 pub mod Zones
 pub mod Complete
+pub mod Stays
 pub mod Bounds
 pub mod Sized
 pub mod Shows
