@@ -1,9 +1,10 @@
 -- Calls known by what they answer alone lead where the definitions lead.
 use mathlib.Core.Path.{_≡_, refl, sym, ap, subst}
-use mathlib.Core.List.{List, _∷_}
+use mathlib.Core.List.{List, _∷_, _++_}
 use lib.Dec.{eqb}
 use Rattle.rules.specs.Change.{cons-if}
 use Rattle.rules.specs.Site.{Call}
+use Rattle.rules.proofs.Lists.{cons-append}
 use Rattle.run.specs.Calls.{answer}
 use Rattle.run.specs.Claims.{Typed, AllTyped}
 use Rattle.run.specs.Lists.{callOf, after, acceptedCalls}
@@ -32,3 +33,10 @@ comes-more r r′ c cs accepted a t e h =
 pub made-comes : {r r′ : Run} {cs : List SiteCall} {accepted : List Call} → Made r cs accepted r′ → Comes r cs accepted r′
 made-comes done = record { typed = tt; calls = refl; result = refl }
 made-comes (then {r} {r′} {c} {cs} {accepted} a t e m) = comes-more r r′ c cs accepted a t e (made-comes m)
+
+-- Two lists, one after the other.
+pub made-append : {r s t : Run} {cs ds : List SiteCall} {xs ys : List Call} → Made r cs xs s → Made s ds ys t → Made r (cs ++ ds) (xs ++ ys) t
+made-append done n = n
+made-append {t = t} {ds = ds} {ys = ys} (then {r} {r′} {c} {cs} {accepted} a w e m) n =
+    subst (λ (l : List Call). Made r (c ∷ cs ++ ds) l t) (sym (cons-append (eqb (a .refusal) 0) (callOf c) accepted ys))
+    (then a w e (made-append m n))

@@ -1,6 +1,7 @@
 pub mod Calls
 pub mod Recorded
 pub mod Three
+pub mod Stays
 pub mod Premises
 pub mod Total
 pub mod Kept

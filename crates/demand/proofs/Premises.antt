@@ -1,8 +1,8 @@
 -- The premises of demand 3 are met: every list of calls can be made from every opening, every recording call and page call has an answer, and
--- case A, with its page, a case with a line check in edition 2, one with gates in edition 3 and one from an opening without stocks are instances
--- whose recordings are complete. So are those of the claim on conversions: every writing, conversion and reading has an answer, and case A, its
--- journal converted to edition 3, and case A's calls in edition 3, their journal converted to edition 1, are instances whose recordings are
--- complete.
+-- case A, with its page and with further calls, a case with a line check in edition 2, one with gates in edition 3 and one from an opening without
+-- stocks are instances whose recordings are complete. So are those of the claim on conversions: every writing, conversion and reading has an
+-- answer, and case A, its journal converted to edition 3, and case A's calls in edition 3, their journal converted to edition 1, are instances
+-- whose recordings are complete.
 use mathlib.Core.Path.{_≡_, refl, ap}
 use mathlib.Core.List.{List, [], _∷_, _++_}
 use Prim.Native.Nat.{ℕ}
@@ -46,8 +46,10 @@ use Rattle.conversion.specs.declared.Conversion.{Conversion}
 use Rattle.conversion.specs.declared.Conversion.the-variants.{Upgrade, Downgrade}
 use Rattle.promises.specs.Answers.{OpenAnswers, RecordAnswers, PageAnswers, ReadAnswers, WriteAnswers, ConvertAnswers}
 use Rattle.demand.specs.Made.{Made, done, then}
+use Rattle.demand.specs.Stays.{Stays}
 use Rattle.demand.proofs.Converted.{conversion-demand}
 use Rattle.demand.proofs.Paged.{page-demand}
+use Rattle.demand.proofs.Stays.{recorded-stays}
 use Rattle.demand.proofs.Three.{demand-three}
 
 pub opens : (terms : Terms) (stocks : List ℕ) → OpenAnswers terms stocks (openCall (openingAs terms stocks))
@@ -148,6 +150,19 @@ answeredA = refl
 pub case-a : Cut (openingOf openingA) (acceptedCalls callsA (openCall openingA .run))
     (shownIn (take (recordedBy openingA callsA 16 .answer .written) (recordedBy openingA callsA 16 .bytes)))
 case-a = recorded-cut openingA callsA 16 typedA openedA answeredA
+
+-- And further calls, a second start among them, which is refused: its recording stays.
+abbrev pub furtherA : List SiteCall
+furtherA = Receive 3 2 ∷ Start 3 ∷ Send 2 1 6 ∷ Receive 2 1 ∷ []
+
+pub case-stays : let r = after callsA (openCall openingA .run) in
+    Stays openingA (acceptedCalls callsA (openCall openingA .run)) (acceptedCalls furtherA r) r (after furtherA r)
+case-stays =
+    let r = after callsA (openCall openingA .run) in
+    let x = recordedBy openingA callsA 16 in
+    recorded-stays (openingA .terms) (openingA .stocks) (openCall openingA) (opens (openingA .terms) (openingA .stocks)) openedA callsA _ r
+    (makes callsA (openCall openingA .run) typedA) (replicate 16 0) (x .bytes) (x .answer) (records r (replicate 16 0)) answeredA
+    furtherA _ (after furtherA r) (makes furtherA r (tt, (tt, (omega arith, (tt, tt)))))
 
 -- Its page, and that this is what the bytes of its recording show.
 pageA : pagedBy openingA callsA 86

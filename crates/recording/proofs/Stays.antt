@@ -50,22 +50,24 @@ module _ (r t : Run) (whole-r : WholeRun r) (whole-t : WholeRun t) (is-r : isRep
   abbrev both : List Call
   both = ruleCallsIn (recordWords r) ++ ds
 
-  further : Complete (run both (openS (openingOf (openedWith r)))) × (snapshot (openingOf (openedWith r)) both ≡ snapshotOf r)
-  further =
+  -- By the rules: the opening and all the calls.
+  pub further-stays : Complete (run both (openS (openingOf (openedWith r)))) × (snapshot (openingOf (openedWith r)) both ≡ snapshotOf r)
+  further-stays =
       complete-stays (openingOf (openedWith r)) (ruleCallsIn (recordWords r)) ds
       (subst (λ (cs : List Call). Allowed cs (openS (openingOf (openedWith r)))) calls
       (subst (λ (o : Opening). Allowed (ruleCallsIn (recordWords t)) (openS (openingOf o))) opening (calls-allowed t whole-t is-t))) complete
 
-  pub recording-stays : SameRecording r t
-  recording-stays =
+  -- So over the runs.
+  pub same-recording : SameRecording r t
+  same-recording =
       let first = if-complete r whole-r is-r complete in
       let later = if-complete t whole-t is-t
       (subst (λ (o : Opening). Complete (run (ruleCallsIn (recordWords t)) (openS (openingOf o)))) (sym opening)
-      (subst (λ (cs : List Call). Complete (run cs (openS (openingOf (openedWith r))))) (sym calls) (further .0))) in
+      (subst (λ (cs : List Call). Complete (run cs (openS (openingOf (openedWith r))))) (sym calls) (further-stays .0))) in
       record {
         replayed = is-t ∙ sym is-r;
         started = later .0 ∙ sym (first .0);
         free = later .1 ∙ sym (first .1);
         terms = ap (λ (o : Opening). o .terms) opening;
-        shown = ap₂ (λ (o : Opening) (cs : List Call). snapshot (openingOf o) cs) opening calls ∙ further .1;
+        shown = ap₂ (λ (o : Opening) (cs : List Call). snapshot (openingOf o) cs) opening calls ∙ further-stays .1;
       }

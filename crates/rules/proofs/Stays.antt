@@ -165,8 +165,8 @@ module _ (v : Opening) (cs ds : List Call) (allowed : Allowed (cs ++ ds) (openS 
       ap₂ inside same-shown (moves-append cs ds (openS v))
       ∙ inside-later (snapshot v cs .events) (λ k. 0) (moves cs (openS v)) (moves ds (run cs (openS v))) (λ k. omega (arith, shown-most k))
 
-  same-recording : snapshot v (cs ++ ds) ≡ snapshot v cs
-  same-recording = λ x. record {
+  same-snapshot : snapshot v (cs ++ ds) ≡ snapshot v cs
+  same-snapshot = λ x. record {
     recorded = λ k. same-permanent (run cs (openS v)) (run (cs ++ ds) (openS v)) same k x;
     events = same-shown x;
     park = record {
@@ -180,5 +180,5 @@ pub complete-stays : (v : Opening) (cs ds : List Call) → Allowed (cs ++ ds) (o
     → Complete (run (cs ++ ds) (openS v)) × (snapshot v (cs ++ ds) ≡ snapshot v cs)
 complete-stays v cs ds allowed complete = (
   subst Complete (sym (run-append cs ds (openS v))) (stays v cs ds allowed complete .1),
-  same-recording v cs ds allowed complete,
+  same-snapshot v cs ds allowed complete,
 )
