@@ -1,4 +1,5 @@
 pub mod BelowLaws
+pub mod Good
 pub mod Filled
 pub mod Outcome
 pub mod Answers

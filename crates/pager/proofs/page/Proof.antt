@@ -1,9 +1,10 @@
 -- `pager::page` meets its contract: the recording's refusal, or the page of what its bytes show.
-use mathlib.Core.Path.{sym, ap, _∙_}
+use mathlib.Core.Path.{ap, _∙_}
 use Prim.Native.Nat.{ℕ, _≤_}
 use native.Mathlib.Omega.{arith}
-use lib.ListN.{length, replicate, length-replicate, length-map}
+use lib.ListN.{length, replicate, length-replicate}
 use Rattle.run.specs.Claims.{WholeRun}
+use Rattle.run.proofs.Good.{run-whole}
 use Rattle.journal.specs.Writing.{Output}
 use Rattle.pager.proofs.Called.{run-refused, run-holds, run-page}
 use borrow.Author.Needs.{needs}
@@ -19,12 +20,7 @@ done c = c .before .before .before
 
 -- The lists of a run have the lengths of its arrays.
 whole : (c : tie.Start) → WholeRun (c .args .run)
-whole c = record {
-  zones = let k = c .good .0 .1 .1 .0 .1 .1 .1 .1 .0 .1 .0 .1 in sym (length-map (c .args .run .head .zones) _) ∙ k;
-  opening = search needs;
-  channels = (search needs, search needs);
-  journal = search needs;
-}
+whole c = run-whole (c .args .run) _ (c .good .0)
 
 -- The bytes of the call's own are enough for a recording.
 own : 2034 ≤ length (replicate {A = ℕ} 2034 0)

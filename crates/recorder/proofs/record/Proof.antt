@@ -1,9 +1,10 @@
 -- `recorder::record` meets its contract: question 1, then what is left.
 use mathlib.Core.Path.{_≡_, refl, sym, _∙_}
 use mathlib.Core.Bool.{true}
-use lib.ListN.{length, length-map}
+use lib.ListN.{length}
 use borrow.Author.Tests.{not-true, not-false}
 use Rattle.run.specs.Claims.{WholeRun}
+use Rattle.run.proofs.Good.{run-whole}
 use Rattle.journal.specs.Writing.{isReplayed}
 use Rattle.recorder.specs.InnerWords.{Replayed}
 use Rattle.recorder.proofs.Recorded.{refused-1, replayed-from}
@@ -21,12 +22,7 @@ asked c = sym (c .before .is-replayed .ensures .0) ∙ not-false _ (c .if1 .left
 
 -- The lists of a run have the lengths of its arrays.
 whole : (c : tie.Start) → WholeRun (c .args .run)
-whole c = record {
-  zones = let k = c .good .0 .1 .1 .0 .1 .1 .1 .1 .0 .1 .0 .1 in sym (length-map (c .args .run .head .zones) _) ∙ k;
-  opening = search needs;
-  channels = (search needs, search needs);
-  journal = search needs;
-}
+whole c = run-whole (c .args .run) _ (c .good .0)
 
 numbered : (c : tie.Else1) → let o = c .before .is-replayed .last .1 .0 in Replayed (start (c .before) .args .run) o × (length o ≡ 1000)
 numbered c = replayed-from _ (whole (start (c .before))) (asked c) _ _ refl (c .before .is-replayed .ensures .1 (not-false _ (c .if1 .left)))
