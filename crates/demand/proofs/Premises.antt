@@ -9,17 +9,10 @@ use Prim.Native.Nat.{ℕ}
 use native.Mathlib.Omega.{arith}
 use lib.ListN.{take, drop, replicate}
 use Rattle.rules.specs.Cut.{Cut}
-use Rattle.rules.specs.Edition.{isEdition, isTraffic, hasGates}
-use Rattle.rules.specs.Questions.{isCount, isOn}
-use Rattle.rules.specs.Sets.{has, members}
-use Rattle.local.specs.Requesting.{requestedBy, startedBy}
-use Rattle.channel.specs.Words.{itemOf, messageWord}
-use Rattle.channel.specs.Channels.{isChannel, pushed, movedDown, popped, allFree, requestedAll}
-use Rattle.run.specs.Calls.{isPair, answer}
+use Rattle.run.specs.Calls.{answer}
 use Rattle.run.specs.Claims.{AllTyped, filled}
 use Rattle.run.specs.Lists.{after, acceptedCalls}
-use Rattle.run.specs.Opening.{termsAs, openingAs, openingOf, openedRun, openCall}
-use Rattle.run.specs.State.{localSound, localsSound, channelSound, channelsSound, stocks, carsOnChannels, partsSound, hasStarted}
+use Rattle.run.specs.Opening.{termsAs, openingAs, openingOf, openCall}
 use Rattle.run.specs.declared.Opening.{Opening}
 use Rattle.run.specs.declared.Run.{Run}
 use Rattle.run.specs.declared.SiteCall.{SiteCall}
@@ -27,23 +20,25 @@ use Rattle.run.specs.declared.SiteCall.the-variants.{Send, Receive, Start, Gate
 use Rattle.rules.specs.declared.Direction.the-variants.{In, Out}
 use Rattle.run.specs.declared.Terms.{Terms}
 use Rattle.journal.specs.Claims.{caseA}
-use Rattle.journal.specs.Format.{journalBytes, decode}
 use Rattle.journal.specs.Reading.{readCall}
-use Rattle.journal.specs.Writing.{sameLocal, sameChannel, sameZones, sameChannels, sameState, replaysTo, isReplayed, Output, PositionedOutput, writeCall}
+use Rattle.journal.specs.Writing.{Output, PositionedOutput, writeCall}
 use Rattle.journal.specs.declared.Reading.{Reading}
-use Rattle.recording.specs.Call.{RecordOutput, noRequests, recordCall}
-use Rattle.recording.specs.Layout.{itemWords, recordingBytes}
+use Rattle.recording.specs.Call.{RecordOutput, recordCall}
 use Rattle.recording.specs.Shown.{shownIn}
 use Rattle.text.specs.Codes.{codes}
-use Rattle.text.specs.Text.{digitCode, columnText}
 use Rattle.words.specs.Bytes.{wordAt}
 use Rattle.words.specs.Header.{zonesIn}
 use Rattle.page.specs.Call.{pageCall}
-use Rattle.page.specs.Layout.{zoneText, channelText, channelsText, totalText, pageWith}
-use Rattle.conversion.specs.Call.{convertFrom, convertCall}
-use Rattle.conversion.specs.Editions.{sourceOf, targetOf, withEdition}
+use Rattle.page.specs.Layout.{pageWith}
+use Rattle.conversion.specs.Call.{convertCall}
+use Rattle.conversion.specs.Editions.{sourceOf, targetOf}
 use Rattle.conversion.specs.declared.Conversion.{Conversion}
 use Rattle.conversion.specs.declared.Conversion.the-variants.{Upgrade, Downgrade}
+use Rattle.run.proofs.Computed.{callsComputed}
+use Rattle.journal.proofs.Computed.{writeComputed}
+use Rattle.recording.proofs.Computed.{recordComputed}
+use Rattle.page.proofs.Computed.{pageComputed}
+use Rattle.conversion.proofs.Computed.{convertComputed}
 use Rattle.promises.specs.Answers.{OpenAnswers, RecordAnswers, PageAnswers, ReadAnswers, WriteAnswers, ConvertAnswers}
 use Rattle.demand.specs.Made.{Made, done, then}
 use Rattle.demand.specs.Stays.{Stays}
@@ -123,11 +118,6 @@ converted-cut c count list cs lent room typed opened written converted answered 
     .recorded converted t (reads (take (w .answer .written) (w .bytes)))
     (replicate room 0) (x .bytes) (x .answer) (records (t .run) (replicate room 0)) .cut answered
 
--- What the recordings of the instances are computed by, named once: `unfolding computed` unfolds all of it.
-computed : Opening → List SiteCall → ℕ → RecordOutput
-unfolding isEdition isTraffic hasGates has members isCount isOn requestedBy startedBy itemOf messageWord pushed movedDown popped allFree requestedAll isChannel localSound localsSound channelSound channelsSound stocks carsOnChannels partsSound hasStarted openedRun isPair openCall answer journalBytes decode readCall sameLocal sameChannel sameZones sameChannels sameState replaysTo isReplayed noRequests recordCall itemWords recordingBytes
-computed o cs lent = recordedBy o cs lent
-
 -- Case A: stocks 10, 20, 30 and its nine calls, with a refused one between.
 abbrev pub openingA : Opening
 openingA = openingAs (termsAs 1 3) (10 ∷ 20 ∷ 30 ∷ [])
@@ -140,11 +130,11 @@ typedA : AllTyped callsA
 typedA = (omega arith, (tt, (omega arith, (omega arith, (tt, (tt, (omega arith, (tt, (tt, (tt, tt))))))))))
 
 openedA : openCall openingA .refusal ≡ 0
-unfolding openCall isEdition isCount
+unfolding callsComputed
 openedA = refl
 
 answeredA : recordedBy openingA callsA 16 .answer .refusal ≡ 0
-unfolding computed
+unfolding recordComputed
 answeredA = refl
 
 pub case-a : Cut (openingOf openingA) (acceptedCalls callsA (openCall openingA .run))
@@ -172,7 +162,7 @@ pageA : pagedBy openingA callsA 86
           codes "Z1 F    2      4\n"
           ++ (codes "Z2 F    1     24\n" ++ (codes "Z3 -    0     30\n" ++ (codes "L13     1      2\n" ++ (codes "T             60\n" ++ (0 ∷ [])))));
     }
-unfolding computed columnText digitCode zoneText channelText channelsText totalText pageWith pageCall
+unfolding recordComputed pageComputed pageCall
 pageA = refl
 
 pub case-page : let v = recordedBy openingA callsA 16 in
@@ -189,11 +179,11 @@ case-page =
 
 -- Its journal, and its conversion to edition 3: "28 09 .." becomes "68 09 ..".
 writtenA : writtenBy openingA callsA 26 ≡ record { answer = record { refusal = 0; written = 26 }; bytes = caseA }
-unfolding computed writeCall
+unfolding writeComputed
 writtenA = refl
 
 convertedA : convertedBy Upgrade openingA callsA 26 ≡ record { answer = record { refusal = 0; position = 0; written = 26 }; bytes = 104 ∷ drop 1 caseA }
-unfolding computed writeCall convertFrom withEdition
+unfolding recordComputed convertComputed
 convertedA = refl
 
 -- "68 01 80 02 00 04 80 01 00 18 00 00 00 1E 02 02": of the recording too the edition alone is another one.
@@ -202,7 +192,7 @@ shownA : rerecordedBy Upgrade openingA callsA 26 16
       answer = record { refusal = 0; written = 16; total = 60 };
       bytes = 104 ∷ 1 ∷ 128 ∷ 2 ∷ 0 ∷ 4 ∷ 128 ∷ 1 ∷ 0 ∷ 24 ∷ 0 ∷ 0 ∷ 0 ∷ 30 ∷ 2 ∷ 2 ∷ [];
     }
-unfolding computed writeCall convertFrom withEdition
+unfolding recordComputed convertComputed
 shownA = refl
 
 pub case-converted : let x = rerecordedBy Upgrade openingA callsA 26 16 in
@@ -225,7 +215,7 @@ typedCheck : AllTyped callsCheck
 typedCheck = (omega arith, (omega arith, (tt, (tt, (omega arith, (tt, (omega arith, (tt, (tt, (tt, tt))))))))))
 
 openedCheck : openCall openingCheck .refusal ≡ 0
-unfolding openCall isEdition isCount
+unfolding callsComputed
 openedCheck = refl
 
 -- "48 00 80 01 00 0E 80 02 00 15 80 01 00 19": no check is shown.
@@ -234,7 +224,7 @@ shownCheck : recordedBy openingCheck callsCheck 14
       answer = record { refusal = 0; written = 14; total = 60 };
       bytes = 72 ∷ 0 ∷ 128 ∷ 1 ∷ 0 ∷ 14 ∷ 128 ∷ 2 ∷ 0 ∷ 21 ∷ 128 ∷ 1 ∷ 0 ∷ 25 ∷ [];
     }
-unfolding computed
+unfolding recordComputed
 shownCheck = refl
 
 pub case-check : Cut (openingOf openingCheck) (acceptedCalls callsCheck (openCall openingCheck .run))
@@ -255,7 +245,7 @@ typedGates : AllTyped callsGates
 typedGates = (omega arith, (omega arith, (tt, (omega arith, (tt, (omega arith, (omega arith, (omega arith, (tt, (omega arith, tt))))))))))
 
 openedGates : openCall openingGates .refusal ≡ 0
-unfolding openCall isEdition isCount
+unfolding callsComputed
 openedGates = refl
 
 -- "68 00 80 03 00 08 80 02 00 0F 00 00 00 1E", and the total 53 = 60 + 3 - 9 - 1.
@@ -264,7 +254,7 @@ shownGates : recordedBy openingGates callsGates 14
       answer = record { refusal = 0; written = 14; total = 53 };
       bytes = 104 ∷ 0 ∷ 128 ∷ 3 ∷ 0 ∷ 8 ∷ 128 ∷ 2 ∷ 0 ∷ 15 ∷ 0 ∷ 0 ∷ 0 ∷ 30 ∷ [];
     }
-unfolding computed
+unfolding recordComputed
 shownGates = refl
 
 pub case-gates : Cut (openingOf openingGates) (acceptedCalls callsGates (openCall openingGates .run))
@@ -273,11 +263,11 @@ case-gates = recorded-cut openingGates callsGates 14 typedGates openedGates (ap 
 
 -- The same opening and the calls of case A: their journal, and its conversion to edition 1, which is that of case A.
 writtenBack : writtenBy openingGates callsA 26 ≡ record { answer = record { refusal = 0; written = 26 }; bytes = 104 ∷ drop 1 caseA }
-unfolding computed writeCall
+unfolding writeComputed
 writtenBack = refl
 
 convertedBack : convertedBy Downgrade openingGates callsA 26 ≡ record { answer = record { refusal = 0; position = 0; written = 26 }; bytes = caseA }
-unfolding computed writeCall convertFrom withEdition
+unfolding recordComputed convertComputed
 convertedBack = refl
 
 -- "28 01 80 02 00 04 80 01 00 18 00 00 00 1E 02 02", the recording of case A.
@@ -286,7 +276,7 @@ shownBack : rerecordedBy Downgrade openingGates callsA 26 16
       answer = record { refusal = 0; written = 16; total = 60 };
       bytes = 40 ∷ 1 ∷ 128 ∷ 2 ∷ 0 ∷ 4 ∷ 128 ∷ 1 ∷ 0 ∷ 24 ∷ 0 ∷ 0 ∷ 0 ∷ 30 ∷ 2 ∷ 2 ∷ [];
     }
-unfolding computed writeCall convertFrom withEdition
+unfolding recordComputed convertComputed
 shownBack = refl
 
 pub case-converted-back : let x = rerecordedBy Downgrade openingGates callsA 26 16 in
@@ -308,7 +298,7 @@ typedEmpty : AllTyped callsEmpty
 typedEmpty = (omega arith, (omega arith, (omega arith, (tt, (omega arith, (tt, (tt, (tt, tt))))))))
 
 openedEmpty : openCall openingEmpty .refusal ≡ 0
-unfolding openCall isEdition isCount
+unfolding callsComputed
 openedEmpty = refl
 
 -- "68 00 80 03 00 04 80 02 00 01 00 00 00 00": zone 3 is shown with its opening stock, 0. The total is that of the entry, 5.
@@ -317,7 +307,7 @@ shownEmpty : recordedBy openingEmpty callsEmpty 14
       answer = record { refusal = 0; written = 14; total = 5 };
       bytes = 104 ∷ 0 ∷ 128 ∷ 3 ∷ 0 ∷ 4 ∷ 128 ∷ 2 ∷ 0 ∷ 1 ∷ 0 ∷ 0 ∷ 0 ∷ 0 ∷ [];
     }
-unfolding computed
+unfolding recordComputed
 shownEmpty = refl
 
 pub case-empty : Cut (openingOf (openingAs (termsAs 3 3) (0 ∷ 0 ∷ 0 ∷ []))) (acceptedCalls callsEmpty (openCall openingEmpty .run))

@@ -13,20 +13,18 @@ use Rattle.rules.specs.Below.{sumBelow}
 use Rattle.rules.specs.Change.{on, join}
 use Rattle.rules.specs.Cut.{Complete, Cut, Snapshot, moves, present, shownBy, snapshot}
 use Rattle.rules.specs.Park.{inside, total, entries, exits}
-use Rattle.rules.specs.Edition.{firstEdition, isEdition, isTraffic, hasGates}
-use Rattle.rules.specs.Questions.{isCount, isOn}
+use Rattle.rules.specs.Edition.{firstEdition}
 use Rattle.rules.specs.Sets.{has}
 use Rattle.rules.specs.Site.{Item, message, request, Call, send, receive, start, gate, openS, waits}
 use Rattle.rules.specs.Zone.{isPermanent}
 use Rattle.rules.specs.declared.Direction.the-variants.{In, Out}
 use Rattle.rules.proofs.Finite.{below}
 use Rattle.rules.proofs.SetLaws.{has-only, has-nobody}
-use Rattle.local.specs.Requesting.{requestedBy, startedBy}
-use Rattle.zone.specs.Zone.{isZoneSound, isOther, sendStep, receiveStep, requestStep, startStep, gateStep}
 use Rattle.network.specs.Network.{openNetwork, after, acceptedCalls, startsIn, networkSite}
 use Rattle.network.specs.Polls.{Poll, polledAt, OneAfterAnother, Settled, polledSite}
 use Rattle.network.proofs.Network.{network-consistent}
 use Rattle.network.proofs.Polls.{settled-complete, settled-cut}
+use Rattle.zone.proofs.Computed.{zoneComputed}
 
 -- Zone 2 is opened full.
 abbrev opening : Opening
@@ -42,7 +40,7 @@ abbrev acceptedOnes : List Call
 acceptedOnes = send 0 1 4 ∷ send 1 0 4 ∷ receive 0 1 ∷ start 1 ∷ receive 1 0 ∷ receive 1 0 ∷ []
 
 accepted-ones : acceptedCalls calls (openNetwork 2 opening) ≡ acceptedOnes
-unfolding isEdition isTraffic isCount isOn isZoneSound isOther sendStep receiveStep requestStep startStep requestedBy startedBy has
+unfolding zoneComputed has
 accepted-ones = refl
 
 -- Any of its channels, by what joined and left it: is it that from zone 1 to zone 2 (p) or back (q), and did a request join it (a, b, c)?
@@ -60,14 +58,14 @@ emptied false false = refl
 
 channel-is : (i j : ℕ) → after calls (openNetwork 2 opening) .channel i j
     ≡ channelItems (eqb i 0 && eqb j 1) (eqb i 1 && eqb j 0) (eqb i 1 && has 0 j) (eqb i 1 && has 1 j) (eqb i 0 && has 0 j)
-unfolding isEdition isTraffic isCount isOn isZoneSound isOther sendStep receiveStep requestStep startStep requestedBy startedBy has
+unfolding zoneComputed has
 channel-is i j = refl
 
 empty-channel : (i j : ℕ) → after calls (openNetwork 2 opening) .channel i j ≡ []
 empty-channel i j = channel-is i j ∙ rw (has-nobody j, has-only 0 j, and-false (eqb i 0), and-false (eqb i 1)) (emptied (eqb i 0 && eqb j 1) (eqb i 1 && eqb j 0))
 
 complete : Complete (networkSite firstEdition (after calls (openNetwork 2 opening)))
-unfolding isEdition isTraffic isCount isOn isZoneSound isOther sendStep receiveStep requestStep startStep requestedBy startedBy has
+unfolding zoneComputed has
 complete = ((1, refl), λ i j. ap waits (empty-channel i j))
 
 -- So what is shown of them is a consistent cut of them.
@@ -98,7 +96,7 @@ roundShown = shownBy tens (acceptedCalls fewCalls (openNetwork 4 tens)) (polledS
 pub one-round-is-not-enough : (sumBelow 4 (λ k. oneRound k .sent) ≡ 1) × (sumBelow 4 (λ k. oneRound k .taken) ≡ 1)
     × (isPermanent (oneRound 0 .zone .checkpoint) ≡ true) × (waits (after fewCalls (openNetwork 4 tens) .channel 1 3) ≡ true)
     × (total 4 (roundShown .park) ≡ 45) × (sumBelow 4 (tens .stocks) ≡ 40)
-unfolding isEdition isTraffic isCount isOn isZoneSound isOther sendStep receiveStep requestStep startStep requestedBy startedBy has ones onesIn
+unfolding zoneComputed has ones onesIn
 one-round-is-not-enough = (refl, refl, refl, refl, refl, refl)
 
 -- Then zone 4 takes its request, and the traffic goes on while two rounds are made: a car leaves zone 1 and comes to zone 3 between the
@@ -122,7 +120,7 @@ abbrev polled : (ℕ → ℕ) → ℕ → Poll
 polled round k = polledAt moreCalls (openNetwork 4 tens) (round k) k
 
 two-settled : Settled 4 (polled firstRound) (polled secondRound)
-unfolding isEdition isTraffic isCount isOn isZoneSound isOther sendStep receiveStep requestStep startStep requestedBy startedBy has ones onesIn
+unfolding zoneComputed has ones onesIn
 two-settled = record {
   sent-kept = λ k h. eqb→eq _ _ (below 4 (λ k. eqb (polled firstRound k .sent) (polled secondRound k .sent)) tt k h);
   taken-kept = λ k h. eqb→eq _ _ (below 4 (λ k. eqb (polled firstRound k .taken) (polled secondRound k .taken)) tt k h);
@@ -131,7 +129,7 @@ two-settled = record {
 }
 
 one-start : startsIn (acceptedCalls moreCalls (openNetwork 4 tens)) ≤ 1
-unfolding isEdition isTraffic isCount isOn isZoneSound isOther sendStep receiveStep requestStep startStep requestedBy startedBy has
+unfolding zoneComputed has
 one-start = leb→le _ 1 tt
 
 abbrev roundsShown : Snapshot
@@ -142,7 +140,7 @@ pub two-rounds-cut : Cut tens (acceptedCalls moreCalls (openNetwork 4 tens)) rou
 two-rounds-cut = settled-cut 4 tens moreCalls one-start firstRound secondRound two-rounds two-settled
 
 pub two-rounds-total : total 4 (roundsShown .park) ≡ 40
-unfolding isEdition isTraffic isCount isOn isZoneSound isOther sendStep receiveStep requestStep startStep requestedBy startedBy has
+unfolding zoneComputed has
 two-rounds-total = refl
 
 -- ---- line checks
@@ -165,11 +163,11 @@ abbrev checksShown : Snapshot
 checksShown = shownBy checked checkCalls (polledSite 2 endPolls)
 
 check-accepted : acceptedCalls checkCalls (openNetwork 3 checked) ≡ checkCalls
-unfolding isEdition isTraffic isCount isOn isZoneSound isOther sendStep receiveStep requestStep startStep requestedBy startedBy has
+unfolding zoneComputed has
 check-accepted = refl
 
 check-settled : Settled 3 endPolls endPolls
-unfolding isEdition isTraffic isCount isOn isZoneSound isOther sendStep receiveStep requestStep startStep requestedBy startedBy has ones onesIn
+unfolding zoneComputed has ones onesIn
 check-settled = record { sent-kept = λ k h. refl; taken-kept = λ k h. refl; all-taken = refl; some-permanent = (0, lit< tt, refl) }
 
 -- What is shown is a consistent cut of all the calls: zones 1 and 2 with one own event each, zone 3 not, and nothing on the line from zone 2
@@ -184,7 +182,7 @@ pub checks-shown : (map (checksShown .recorded) (0 ∷ 1 ∷ 2 ∷ []) ≡ true 
     × (map (checksShown .park .stock) (0 ∷ 1 ∷ 2 ∷ []) ≡ 13 ∷ 7 ∷ 10 ∷ [])
     × (checksShown .park .channel 1 0 ≡ [])
     × (after checkCalls (openNetwork 3 checked) .channel 1 0 ≡ message 0 false ∷ [])
-unfolding isEdition isTraffic isCount isOn isZoneSound isOther sendStep receiveStep requestStep startStep requestedBy startedBy has
+unfolding zoneComputed has
 checks-shown = (refl, refl, refl, refl, refl)
 
 -- ---- gates
@@ -239,14 +237,14 @@ abbrev gatesShown : Snapshot
 gatesShown = shownBy gated gateOnes (polledSite 3 gatePolls)
 
 gates-accepted : acceptedCalls gateCalls (openNetwork 3 gated) ≡ gateOnes
-unfolding isEdition isTraffic hasGates isCount isOn isZoneSound isOther sendStep receiveStep requestStep startStep gateStep requestedBy startedBy has
+unfolding zoneComputed has
 gates-accepted = refl
 
 gates-one-start : startsIn (acceptedCalls gateCalls (openNetwork 3 gated)) ≤ 1
 gates-one-start = subst (λ (cs : List Call). startsIn cs ≤ 1) (sym gates-accepted) (omega arith)
 
 gates-settled : Settled 3 gatePolls gatePolls
-unfolding isEdition isTraffic hasGates isCount isOn isZoneSound isOther sendStep receiveStep requestStep startStep gateStep requestedBy startedBy has ones onesIn
+unfolding zoneComputed has ones onesIn
 gates-settled = record { sent-kept = λ k h. refl; taken-kept = λ k h. refl; all-taken = refl; some-permanent = (0, lit< tt, refl) }
 
 -- The recording is complete, and what is shown is a consistent cut of the accepted calls, the gate calls among them: zones 1 and 2 with
@@ -262,7 +260,7 @@ pub gates-shown : (map (gatesShown .recorded) (0 ∷ 1 ∷ 2 ∷ []) ≡ true �
     × (map (gatesShown .events) (0 ∷ 1 ∷ 2 ∷ []) ≡ 2 ∷ 3 ∷ 0 ∷ [])
     × (map (gatesShown .park .stock) (0 ∷ 1 ∷ 2 ∷ []) ≡ 9 ∷ 12 ∷ 10 ∷ [])
     × (gatesShown .park .channel 1 0 ≡ [])
-unfolding isEdition isTraffic hasGates isCount isOn isZoneSound isOther sendStep receiveStep requestStep startStep gateStep requestedBy startedBy has
+unfolding zoneComputed has
 gates-shown = (refl, refl, refl, refl)
 
 -- The recorded total is that of the opening, 30, with the 5 cars that drove in inside the recording and without the 4 that drove out; the
@@ -273,5 +271,5 @@ pub gates-total : (total 3 (gatesShown .park) ≡ 31)
     × (total 3 (present (networkSite 3 (after gateCalls (openNetwork 3 gated)))) ≡ 44)
     × (entries (moves gateOnes (openS gated)) ≡ 32)
     × (exits (moves gateOnes (openS gated)) ≡ 18)
-unfolding isEdition isTraffic hasGates isCount isOn isZoneSound isOther sendStep receiveStep requestStep startStep gateStep requestedBy startedBy has
+unfolding zoneComputed has
 gates-total = (refl, refl, refl, refl, refl, refl)

@@ -4,4 +4,5 @@ pub mod ReadBack
 pub mod Enough
 pub mod Whole
 pub mod Outcome
+pub mod Computed
 pub mod Examples

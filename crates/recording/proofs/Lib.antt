@@ -10,5 +10,6 @@ pub mod Shows
 pub mod Most
 pub mod Read
 pub mod Totals
+pub mod Computed
 pub mod Examples
 pub mod Asked

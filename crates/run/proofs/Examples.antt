@@ -4,23 +4,18 @@ use mathlib.Core.Bool.{Bool, true, false}
 use mathlib.Core.List.{List, [], _∷_}
 use Prim.Native.Nat.{ℕ}
 use lib.ListN.{replicate, take}
-use Rattle.rules.specs.Edition.{isEdition, isTraffic, hasGates}
-use Rattle.rules.specs.Questions.{isCount, isOn}
-use Rattle.rules.specs.Sets.{has, members}
 use Rattle.rules.specs.Site.{message, request, send, receive, start, gate}
 use Rattle.rules.specs.Zone.{hasCheckpoint}
-use Rattle.local.specs.Requesting.{requestedBy, startedBy}
-use Rattle.channel.specs.Words.{itemOf, messageWord}
-use Rattle.channel.specs.Channels.{pushed, movedDown, popped, allFree, requestedAll, isChannel}
-use Rattle.run.specs.State.{localSound, localsSound, channelSound, channelsSound, stocks, carsOnChannels, allCars, partsSound, hasStarted}
-use Rattle.run.specs.Calls.{isPair, answer}
+use Rattle.run.specs.State.{allCars}
+use Rattle.run.specs.Calls.{answer}
 use Rattle.run.specs.Model.{siteOf}
 use Rattle.run.specs.Lists.{after, acceptedCalls}
 use Rattle.run.specs.declared.Run.{Run}
 use Rattle.run.specs.declared.SiteCall.{SiteCall}
 use Rattle.run.specs.declared.SiteCall.the-variants.{Receive, Send, Start, Gate}
 use Rattle.rules.specs.declared.Direction.the-variants.{In, Out}
-use Rattle.run.specs.Opening.{openCall, openedRun, openingAs, termsAs}
+use Rattle.run.specs.Opening.{openCall, openingAs, termsAs}
+use Rattle.run.proofs.Computed.{callsComputed}
 
 -- Three zones with 10, 20 and 30 cars, in an edition.
 abbrev opened : ℕ → Run
@@ -113,5 +108,5 @@ Remaining = (answer (Receive 1 2) (after (Send 1 2 5 ∷ Send 1 2 4 ∷ []) thre
     × (answer (Receive 3 1) (answer (Send 3 1 1) (after full three) .run) .remaining ≡ 0) × (answer (Send 1 2 5) (after two three) .remaining ≡ 0)
 
 pub computed : Flag × First × Sent × Refused × Numbers × Checks × Gates × Remaining
-unfolding isEdition isTraffic hasGates isCount isOn has members requestedBy startedBy itemOf messageWord pushed movedDown popped allFree requestedAll isChannel localSound localsSound channelSound channelsSound stocks carsOnChannels partsSound hasStarted openedRun isPair openCall answer
+unfolding callsComputed
 computed = ((refl, refl, refl, refl, refl), (refl, refl), (refl, refl, refl), (refl, refl), (refl, refl, refl, refl, refl, refl, refl, refl, refl, refl, refl, refl), ((refl, refl, refl, refl, refl), (refl, refl, refl, refl, refl)), (refl, refl, refl, refl, refl, refl, refl, refl, refl, refl, refl, refl), (refl, refl, refl, refl))

@@ -18,4 +18,5 @@ pub mod Journal
 pub mod Accepts
 pub mod Remaining
 pub mod Facts
+pub mod Computed
 pub mod Examples

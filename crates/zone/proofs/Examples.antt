@@ -8,23 +8,13 @@ use Rattle.rules.specs.declared.Saved.{Saved}
 use Rattle.rules.specs.declared.Checkpoint.{Checkpoint}
 use Rattle.rules.specs.declared.Checkpoint.the-variants.{None, Mutable, Permanent}
 use Rattle.rules.specs.declared.Direction.the-variants.{In, Out}
-use Rattle.local.specs.Requesting.{requestedBy, startedBy}
-use Rattle.rules.specs.Edition.{firstEdition, isEdition, isTraffic, hasGates}
-use Rattle.rules.specs.Questions.{isCount, isOn}
-use Rattle.zone.specs.Zone.{
-  isOther,
-  isZoneSound,
-  openZone,
-  sendStep,
-  receiveStep,
-  requestStep,
-  startStep,
-  gateStep,
-}
+use Rattle.rules.specs.Edition.{firstEdition}
+use Rattle.zone.specs.Zone.{openZone, sendStep, receiveStep, requestStep, startStep, gateStep}
 use Rattle.zone.specs.declared.Zone.{Zone}
 use Rattle.zone.specs.declared.Step.{Step}
 use Rattle.zone.specs.declared.ZoneOpened.{ZoneOpened}
 use Rattle.zone.proofs.Checks.{afterChecks, checks-kept}
+use Rattle.zone.proofs.Computed.{zoneComputed}
 
 -- What the zone part answers: an opening, or a step.
 pub data Reply : Type 0 where
@@ -179,11 +169,11 @@ table =
 
 -- The two sides of every row are equal.
 pub edges : answers table ≡ expectations table
-unfolding isEdition isTraffic hasGates isCount isOn isOther isZoneSound openZone sendStep receiveStep requestStep startStep gateStep requestedBy startedBy
+unfolding zoneComputed
 edges = refl
 
 -- A check behind 1,000 others is accepted, since none of them is an own event.
 pub check-1001 : sendStep (afterChecks 1000 2 (zoneIn 2 1 2 5 1 3 None)) 2 0
     ≡ record { refusal = 0; zone = zoneIn 2 1 2 5 1 3 None; flag = false; to = 0; carried = 0 }
-unfolding isEdition isTraffic isCount isOn isOther isZoneSound sendStep
+unfolding zoneComputed
 check-1001 = ap (λ (z : Zone). sendStep z 2 0) (checks-kept (zoneIn 2 1 2 5 1 3 None) (omega arith) 2 1000)

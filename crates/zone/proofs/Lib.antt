@@ -1,5 +1,6 @@
 pub mod Laws
 pub mod Asks
+pub mod Computed
 pub mod Examples
 pub mod Targets
 pub mod Checks
