@@ -1,39 +1,16 @@
 -- The table of worked edges, by computing.
 use mathlib.Core.Path.{_≡_, refl, ap}
 use mathlib.Core.List.{List, [], _∷_, _++_}
-use Rattle.rules.specs.Edition.{isEdition, isTraffic, hasGates}
-use Rattle.rules.specs.Questions.{isCount, isOn}
-use Rattle.rules.specs.Sets.{has, members}
-use Rattle.local.specs.Requesting.{requestedBy, startedBy}
-use Rattle.channel.specs.Words.{itemOf, messageWord}
-use Rattle.channel.specs.Channels.{isChannel, pushed, movedDown, popped, allFree, highestFull, requestedAll}
-use Rattle.run.specs.Calls.{isPair, answer}
-use Rattle.run.specs.Opening.{openedRun, openCall}
-use Rattle.run.specs.State.{localSound, localsSound, channelSound, channelsSound, stocks, carsOnChannels, partsSound, hasStarted}
-use Rattle.journal.specs.Format.{journalBytes, decode}
-use Rattle.journal.specs.Reading.{readCall}
-use Rattle.journal.specs.Writing.{
-  sameLocal,
-  sameChannel,
-  sameZones,
-  sameChannels,
-  sameState,
-  replaysTo,
-  isReplayed,
-  writeCall,
-}
-use Rattle.recording.specs.Layout.{itemWords, recordingBytes}
-use Rattle.recording.specs.Call.{noRequests, recordCall}
+use Rattle.channel.specs.Channels.{highestFull}
 use Rattle.recording.specs.Journal.{recordJournal}
-use Rattle.text.specs.Text.{digitCode, columnText}
 use Rattle.page.specs.Call.{pageCall}
 use Rattle.page.specs.Journal.{pageJournal}
-use Rattle.page.specs.Layout.{zoneText, channelText, channelsText, totalText, pageWith}
-use Rattle.conversion.specs.Call.{convertFrom}
-use Rattle.conversion.specs.Editions.{withEdition}
-use Rattle.zone.specs.Zone.{isOther, isZoneSound, openZone, sendStep, receiveStep, requestStep, startStep, gateStep}
 use Rattle.report.specs.Report.{reportText}
 use Rattle.report.specs.Wall.{wallText}
+use Rattle.recording.proofs.Computed.{recordComputed}
+use Rattle.page.proofs.Computed.{pageComputed}
+use Rattle.conversion.proofs.Computed.{convertComputed}
+use Rattle.zone.proofs.Computed.{zoneComputed}
 use Rattle.edges.specs.Rows.{Row, Reply, reply, answers, expectations}
 use Rattle.edges.specs.Editions.{editions}
 use Rattle.edges.specs.Gates.{gates}
@@ -46,7 +23,7 @@ use Rattle.edges.specs.Edges.{firstEdges, table}
 
 -- What the rows are computed by, named once: `unfolding computed` unfolds all of it.
 computed : List Row → List Reply
-unfolding isEdition isTraffic hasGates isCount isOn has members requestedBy startedBy itemOf messageWord pushed movedDown popped allFree highestFull requestedAll isPair openCall answer isChannel localSound localsSound channelSound channelsSound stocks carsOnChannels partsSound hasStarted openedRun journalBytes decode readCall sameLocal sameChannel sameZones sameChannels sameState replaysTo isReplayed writeCall itemWords recordingBytes noRequests recordCall recordJournal digitCode columnText zoneText channelText channelsText totalText pageWith pageCall pageJournal convertFrom withEdition isOther isZoneSound openZone sendStep receiveStep requestStep startStep gateStep reportText wallText
+unfolding recordComputed highestFull recordJournal pageComputed pageCall pageJournal convertComputed zoneComputed reportText wallText
 computed rows = answers rows
 
 -- The table in eight parts: as a whole it is beyond the 50,000,000 steps that one proof may take.
