@@ -1,7 +1,7 @@
 -- Worked examples of the zone part: each row's answer, by the definitions that the contracts cite, is what docs/RULES.md says.
 use mathlib.Core.Path.{_≡_, refl, ap}
 use mathlib.Core.Bool.{Bool, true, false}
-use mathlib.Core.List.{List, [], _∷_}
+use mathlib.Core.List.{List, [], _∷_, _++_}
 use Prim.Native.Nat.{ℕ}
 use native.Mathlib.Omega.{arith}
 use Rattle.rules.specs.declared.Saved.{Saved}
@@ -9,17 +9,19 @@ use Rattle.rules.specs.declared.Checkpoint.{Checkpoint}
 use Rattle.rules.specs.declared.Checkpoint.the-variants.{None, Mutable, Permanent}
 use Rattle.rules.specs.declared.Direction.the-variants.{In, Out}
 use Rattle.rules.specs.Edition.{firstEdition}
-use Rattle.zone.specs.Zone.{openZone, sendStep, receiveStep, requestStep, startStep, gateStep}
+use Rattle.rules.specs.Sets.{size}
+use Rattle.zone.specs.Zone.{openZone, sendStep, receiveStep, requestStep, startStep, gateStep, nextTarget}
 use Rattle.zone.specs.declared.Zone.{Zone}
 use Rattle.zone.specs.declared.Step.{Step}
 use Rattle.zone.specs.declared.ZoneOpened.{ZoneOpened}
 use Rattle.zone.proofs.Checks.{afterChecks, checks-kept}
 use Rattle.zone.proofs.Computed.{zoneComputed}
 
--- What the zone part answers: an opening, or a step.
+-- What the zone part answers: an opening, a step, or a number of a set of zones.
 pub data Reply : Type 0 where
   opening : ZoneOpened → Reply
   step : Step → Reply
+  ofSet : ℕ → Reply
 
 pub record Row : Type 0 where
   pub answer : Reply
@@ -62,6 +64,28 @@ gives s n z flag to carried = record {
   answer = step s;
   expected = step (record { refusal = n; zone = z; flag = flag; to = to; carried = carried });
 }
+
+-- A step that is refused, with the refusal's number: the zone unchanged, flag and sets 0.
+abbrev pub refuses : (Zone → Step) → Zone → ℕ → Row
+refuses s z n = gives (s z) n z false 0 0
+
+-- A set, with the number of requests to be sent to it; and one with its next zone.
+abbrev pub counts : ℕ → ℕ → Row
+counts set n = record { answer = ofSet (size set); expected = ofSet n }
+
+abbrev pub leads : ℕ → ℕ → Row
+leads set n = record { answer = ofSet (nextTarget set); expected = ofSet n }
+
+-- Every step on a zone that is not sound meets 1.
+abbrev pub unsound : Zone → List Row
+unsound z =
+    refuses (λ z. sendStep z 2 1) z 1
+    ∷ refuses (λ z. receiveStep z 2 1 false) z 1
+    ∷ refuses (λ z. requestStep z 3) z 1
+    ∷ refuses startStep z 1
+    ∷ refuses (λ z. gateStep z In 1) z 1
+    ∷ refuses (λ z. gateStep z Out 1) z 1
+    ∷ []
 
 abbrev pub table : List Row
 table =
@@ -165,6 +189,32 @@ table =
     ∷ gives (gateStep (zoneIn 2 1 2 5 1 1000 None) Out 6) 15 (zoneIn 2 1 2 5 1 1000 None) false 0 0
     ∷ gives (gateStep (zoneIn 3 1 2 65535 1 1000 None) In 1) 6 (zoneIn 3 1 2 65535 1 1000 None) false 0 0
     ∷ gives (gateStep (zoneIn 3 1 2 5 1 1000 None) Out 6) 6 (zoneIn 3 1 2 5 1 1000 None) false 0 0
+    -- A request whose set names a zone off the site, and one that names all of it.
+    ∷ refuses (λ z. requestStep z 8) (zone 2 3 10 2 0 None) 5
+    ∷ refuses (λ z. requestStep z 255) (zone 2 3 10 2 0 (Permanent (saved 10 0))) 5
+    ∷ gives (requestStep (zone 2 3 10 2 0 None) 7) 0 (zone 2 3 10 2 0 (Permanent (saved 10 0))) false 0 0
+    -- 1,000 own events are sound: a start and a request, which do not ask 6, are accepted.
+    ∷ gives (startStep (zone 1 2 5 1 1000 None)) 0 (zone 1 2 5 1 1000 (Permanent (saved 5 1000))) false 0 0
+    ∷ gives (requestStep (zone 1 2 5 1 1000 None) 2) 0 (zone 1 2 5 1 1000 (Permanent (saved 5 1000))) false 0 0
+    -- 1,001 are not: 1, where 1,000 meet 6.
+    ∷ unsound (zoneIn 3 1 2 5 1 1001 None)
+    -- A dependency set that names a zone off the site: zone 3 of 2, zone 8 of 2.
+    ++ unsound (zoneIn 3 1 2 5 5 3 None)
+    ++ unsound (zoneIn 3 1 2 5 129 3 None)
+    -- The number of requests: to nobody, to one zone, to several, to all eight.
+    ++ counts 0 0
+    ∷ counts 1 1
+    ∷ counts 128 1
+    ∷ counts 6 2
+    ∷ counts 104 3
+    ∷ counts 255 8
+    -- The next zone of the same sets: none, or the lowest.
+    ∷ leads 0 0
+    ∷ leads 1 1
+    ∷ leads 128 8
+    ∷ leads 6 2
+    ∷ leads 104 4
+    ∷ leads 255 1
     ∷ []
 
 -- The two sides of every row are equal.
