@@ -11,9 +11,6 @@ new _ = part.new.Met.met
 pub peek : Keeps part.peek.ended part.peek.Symbol.routine (λ _ c r. r ≡ nextOf (now (c .bytes)) (c .at))
 peek _ = part.peek.Met.met
 
-pub moved : Keeps part.moved.ended part.moved.Symbol.routine (λ _ c at r. (r .bytes ≡ c .bytes) × (r .at ≡ at))
-moved _ = part.moved.Met.met
-
 pub next-record : Keeps part.next_record.ended part.next_record.Symbol.routine (λ _ bytes at r. r ≡ nextOf (now bytes) at)
 next-record _ = part.next_record.Met.met
 
