@@ -1,0 +1,71 @@
+#!/usr/bin/env python3
+"""Checks that every must-fail edit is refused by a fact that it makes false, and not by its own form; run by the gate behind `rt ci`.
+
+rt leaves what the prover said of an edit in target/must-fail/CRATE/LABEL/.log. Its errors stand in the order of the modules; one that says
+that another declaration was not admitted only follows from an error before it, and is passed over. It is an error of the tree if
+- an edit of the tree has no log;
+- the first error is in specs/: a definition of the edit is no definition, so that nothing was asked of it;
+- the first error is in none of the words in which a fact fails: a name that is not in scope, a field too many or missing, a place that the
+  proof no longer finds (has no `Need-..`), another number of arguments;
+- there is no error, and no note either that something of a function is not proved.
+A fact fails where two statements are compared and differ, or where a tactic does not find what it was asked for.
+"""
+import pathlib
+import re
+import sys
+
+ROOT = pathlib.Path(__file__).resolve().parent.parent
+LOGS = ROOT / "target" / "must-fail"
+ERROR = re.compile(r"(\S+\.antt):\d+:\d+: (?:error: )?(?!note: )(.*)")
+FOLLOWS = re.compile(r"`[^`]*` (?:was not admitted|cannot be unfolded because it was not admitted)")
+FACT = re.compile(
+    r"the (?:first \d+ bytes of the )?two (?:types|values) |expected type `.*but this has type `|≟ .*does not hold|"
+    r"`omega`: the goal does not follow|`search`: no proof of|`rw`: no occurrence of|give a proof of that as the last argument",
+    re.S,
+)
+# No statements are compared, but types of values, or the needs of a function's proof, which has them in another order or number.
+NO_FACT = re.compile(r"expected type `(?:(?:List )?[\w.·]+(?: → (?:List )?[\w.·]+)*|tie\.Need-[\w-]+)`")
+
+
+def errors(log):
+    """The errors of a log that follow from no other one: the file, and the whole text."""
+    found, open_ = [], False
+    for line in log.split("\n"):
+        start = ERROR.match(line)
+        if start:
+            found.append([start[1], start[2]])
+        elif open_ and line.startswith("  "):
+            found[-1][1] += "\n" + line
+        open_ = bool(start) or open_ and line.startswith("  ")
+    return [(path, text) for path, text in found if not FOLLOWS.search(text.split("\n")[0])]
+
+
+def fault(folder):
+    """What is wrong with the refusal of an edit, whose copy of its crate is this folder; None where a fact refuses it."""
+    path = folder / ".log"
+    if not path.exists():
+        return "it has no log: rt did not try it"
+    log = path.read_text(encoding="utf-8")
+    found = errors(log)
+    if not found:
+        return None if ": it is not proved that " in log else "its log has no error"
+    at, text = found[0]
+    at, first = at.replace(f"{folder}/", ""), text.split("\n")[0][:300]
+    if at.startswith("specs/"):
+        return f"it is refused in {at}, before a fact is asked: {first}"
+    if NO_FACT.search(text) or not FACT.search(text):
+        return f"it is refused by its form in {at}: {first}"
+    return None
+
+
+def main():
+    edits = sorted(ROOT.glob("crates/*/must-fail/*.edit"))
+    faults = {f"{p.parts[-3]}/{p.stem}": fault(LOGS / p.parts[-3] / p.stem) for p in edits}
+    wrong = [f"{edit}: {what}" for edit, what in faults.items() if what]
+    if wrong:
+        sys.exit("\n".join(wrong))
+    print(f"Each of the {len(edits)} must-fail edits is refused by a fact.")
+
+
+if __name__ == "__main__":
+    main()
