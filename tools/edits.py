@@ -5,10 +5,10 @@ rt leaves what the prover said of an edit in target/must-fail/CRATE/LABEL/.log. 
 that another declaration was not admitted only follows from an error before it, and is passed over. It is an error of the tree if
 - an edit of the tree has no log;
 - the first error is in specs/: a definition of the edit is no definition, so that nothing was asked of it;
-- the first error is in none of the words in which a fact fails: a name that is not in scope, a field too many or missing, a place that the
-  proof no longer finds (has no `Need-..`), another number of arguments;
+- the first error is in none of the words in which a fact fails: two statements that are compared differ, or a tactic does not find what it
+  was asked for. Other words are those of a definition or a proof that is none: another number of arguments, a case too many, a type of values;
+- any error says that a name, a field or a need of the proof (`Need-..`) is not there: the edit's text does not fit the code;
 - there is no error, and no note either that something of a function is not proved.
-A fact fails where two statements are compared and differ, or where a tactic does not find what it was asked for.
 """
 import pathlib
 import re
@@ -25,6 +25,7 @@ FACT = re.compile(
 )
 # No statements are compared, but types of values, or the needs of a function's proof, which has them in another order or number.
 NO_FACT = re.compile(r"expected type `(?:(?:List )?[\w.·]+(?: → (?:List )?[\w.·]+)*|tie\.Need-[\w-]+)`")
+MISSING = re.compile(r"is not in scope|has no field|missing field|is not a field of|that can be named from here")
 
 
 def errors(log):
@@ -49,11 +50,12 @@ def fault(folder):
     found = errors(log)
     if not found:
         return None if ": it is not proved that " in log else "its log has no error"
-    at, text = found[0]
-    at, first = at.replace(f"{folder}/", ""), text.split("\n")[0][:300]
+    unfit = [e for e in found if MISSING.search(e[1])]
+    at, text = (unfit or found)[0]
+    at, first = at.split(f"/{folder.parent.name}/{folder.name}/")[-1], " ".join(text.split())[:300]
     if at.startswith("specs/"):
         return f"it is refused in {at}, before a fact is asked: {first}"
-    if NO_FACT.search(text) or not FACT.search(text):
+    if unfit or NO_FACT.search(text) or not FACT.search(text):
         return f"it is refused by its form in {at}: {first}"
     return None
 
