@@ -29,6 +29,7 @@ INNER = {
     "items": "the items of a recording, which the recorder counts and writes",
     "local": "a zone's own rules, which the zone part and the site engine share",
     "opening": "a run from its terms, which the site engine and the reader share",
+    "programs": "what the programs do, each of which is one call of it",
     "questions": "questions that the zone part and the site engine ask alike",
     "run": "a run's head and its calls, which every crate of the site engine shares",
     "same": "the comparison of two runs, which the writer makes",

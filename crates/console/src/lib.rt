@@ -68,8 +68,8 @@ pub fn read(program: &[u8], space: &mut [u8]) -> Input
     Input::Bytes(n)
 }
 
-// Writes an answer of the program of this name, which says where not all of it was written. No contract can say what was: C's write promises
-// the number alone.
+// Writes an answer of the program of this name, which says where not all of it was written. It has no contract: C's write promises the number of
+// bytes alone, and the kit has no statement of what stands on a file.
 pub fn write(program: &[u8], answer: &[u8]) {
     if !io::write_all(STDOUT_FILENO, answer) {
         io::write_all(STDERR_FILENO, program);
@@ -77,7 +77,8 @@ pub fn write(program: &[u8], answer: &[u8]) {
     }
 }
 
-// Writes a text to standard error: a refusal that must not stand in the answer, or how a program is called.
+// Writes a text to standard error: a refusal that must not stand in the answer, or how a program is called. It has no contract, for the same
+// reason.
 pub fn say(text: &[u8]) {
     io::write_all(STDERR_FILENO, text);
 }

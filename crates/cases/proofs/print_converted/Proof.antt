@@ -1,6 +1,5 @@
 -- `cases::print_converted` meets its contract: what is written and what is shown lie within the buffers.
 use mathlib.Core.Path.{sym}
-use lib.ListN.{replicate}
 use lib.Seq.{length-take-le}
 use Rattle.conversion.proofs.Answers.{answer-within}
 use Rattle.report.proofs.Within.{prints-within, prints-taken}
@@ -34,9 +33,8 @@ returns c = search needs
 
 array-share-prefix-bytes : tie.Need-array-share-prefix-bytes
 array-share-prefix-bytes c =
-    let w = c .before .before .before in
-    let a = w .before .before .before .args in
-    answer-within (a .conversion) (a .journal .now) (replicate 2018 0) _ _ (w .convert .ensures .0) (w .convert .ensures .1)
+    let done = c .before .before .before .convert .ensures in
+    answer-within _ _ _ _ _ _ (done .0) (done .1)
 
 slice-aggregate-shown : tie.Need-slice-aggregate-shown
 slice-aggregate-shown c = sym (length-take-le _ _ (array-share-prefix-bytes (c .before)))

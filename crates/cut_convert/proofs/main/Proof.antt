@@ -1,4 +1,4 @@
--- `cut_convert::main` meets its contract: the argument and the journal lie within the bytes read.
+-- `cut_convert::main` meets its contract: the argument lies within the bytes that were lent for it.
 use mathlib.Core.Path.{sym}
 use lib.Seq.{length-take-le}
 use borrow.Author.Needs.{needs}
@@ -35,35 +35,17 @@ say-requires c κs = search needs
 returns : tie.Need-returns
 returns c = search needs
 
-slice-aggregate-read : tie.Need-slice-aggregate-read
-slice-aggregate-read c = search needs
+slice-aggregate-run : tie.Need-slice-aggregate-run
+slice-aggregate-run c = search needs
 
-slice-aggregate-read-2 : tie.Need-slice-aggregate-read-2
-slice-aggregate-read-2 c = search needs
+slice-aggregate-run-2 : tie.Need-slice-aggregate-run-2
+slice-aggregate-run-2 c = search needs
 
-read-requires : tie.Need-read-requires
-read-requires c κs = search needs
-
-enum-known-input : tie.Need-enum-known-input
-enum-known-input c = search needs
-
-enum-told-2 : tie.Need-enum-told-2
-enum-told-2 c = search needs
+run-requires : tie.Need-run-requires
+run-requires c κs = search needs
 
 returns-2 : tie.Need-returns-2
 returns-2 c = search needs
-
-array-share-prefix-space : tie.Need-array-share-prefix-space
-array-share-prefix-space c = c .before .before .before .before .read .ensures _ (c .before .input .given .1)
-
-slice-aggregate-print : tie.Need-slice-aggregate-print
-slice-aggregate-print c = sym (length-take-le _ _ (array-share-prefix-space (c .before)))
-
-print-requires : tie.Need-print-requires
-print-requires c κs = search needs
-
-returns-3 : tie.Need-returns-3
-returns-3 c = search needs
 
 pub main-spec : {M : Type 1} → statement M
 main-spec =
@@ -79,13 +61,7 @@ main-spec =
     slice-aggregate-say
     say-requires
     returns
-    slice-aggregate-read
-    slice-aggregate-read-2
-    read-requires
-    enum-known-input
-    enum-told-2
-    returns-2
-    array-share-prefix-space
-    slice-aggregate-print
-    print-requires
-    returns-3)
+    slice-aggregate-run
+    slice-aggregate-run-2
+    run-requires
+    returns-2)
