@@ -10,7 +10,6 @@ use Rattle.channel.specs.Words.{itemOf}
 use Rattle.channel.specs.Channels.{channelsAs, wordsOn}
 use Rattle.recorder.proofs.Waiting.{waits-more, waits-all}
 use Rattle.recorder.proofs.is_waiting.Statement.{statement}
-use Rattle.run.specs.declared.SiteCall.the-variants.{Start}
 use Rattle.recorder.proofs.is_waiting.Tie as tie
 
 abbrev Inv-loop : tie.InvT-loop

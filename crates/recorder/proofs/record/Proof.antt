@@ -10,7 +10,6 @@ use Rattle.recorder.specs.InnerWords.{Replayed}
 use Rattle.recorder.proofs.Recorded.{refused-1, replayed-from}
 use borrow.Author.Needs.{needs}
 use Rattle.recorder.proofs.record.Statement.{statement}
-use Rattle.run.specs.declared.SiteCall.the-variants.{Start}
 use Rattle.recorder.proofs.record.Tie as tie
 
 -- Landmarks: question 1 answered yes.

@@ -5,7 +5,6 @@ use Rattle.recorder.specs.InnerWords.{Replayed}
 use Rattle.recorder.proofs.Recorded.{read-from, journal-recorded, journal-refused}
 use borrow.Author.Needs.{needs}
 use Rattle.recorder.proofs.record_journal.Statement.{statement}
-use Rattle.run.specs.declared.SiteCall.the-variants.{Start}
 use Rattle.recorder.proofs.record_journal.Tie as tie
 
 -- Landmarks: the journal is read; it is accepted.

@@ -1,7 +1,6 @@
 -- `recorder::record_replayed` meets its contract: questions 12, 13 and 14, and the bytes.
 use mathlib.Core.Path.{_≡_, sym, _∙_, ap}
 use mathlib.Core.Bool.{true}
-use Prim.Native.Nat.{_-_}
 use borrow.Author.Tests.{not-true, not-false}
 use Rattle.run.specs.State.{countOf, hasStarted}
 use Rattle.recording.specs.Call.{RecordOutput, noRequests}
@@ -9,8 +8,6 @@ use Rattle.recording.proofs.Bounds.{run-sound}
 use Rattle.recorder.proofs.Recorded.{enough-words, enough-ordinals, parts-fit, parts-written, refused-12, refused-13}
 use borrow.Author.Needs.{needs}
 use Rattle.recorder.proofs.record_replayed.Statement.{statement}
-use Rattle.run.specs.declared.SiteCall.the-variants.{Start}
-use Rattle.run.specs.Calls.{answer}
 use Rattle.recorder.proofs.record_replayed.Tie as tie
 
 -- Landmarks: 12 answered yes; the items are read; 13 answered yes; the records are lent; their own-event ordinals are lent.

@@ -11,7 +11,6 @@ use Rattle.run.specs.declared.Head.{Head}
 use Rattle.recorder.specs.InnerWords.{shownEvents}
 use Rattle.recorder.proofs.Shown.{part, part-none, part-more, part-all}
 use Rattle.recorder.proofs.shown_events.Statement.{statement}
-use Rattle.run.specs.declared.SiteCall.the-variants.{Start}
 use Rattle.recorder.proofs.shown_events.Tie as tie
 
 abbrev eventsAt : Head → ℕ → ℕ

@@ -14,7 +14,6 @@ use Rattle.recorder.specs.InnerWords.{zonesWords}
 use Rattle.recorder.proofs.Shown.{zones-length}
 use borrow.Author.Needs.{needs}
 use Rattle.recorder.proofs.write_all.Statement.{statement}
-use Rattle.run.specs.declared.SiteCall.the-variants.{Start}
 use Rattle.recorder.proofs.write_all.Tie as tie
 
 -- Landmarks: the opening is read; the header is made; it is written; the zones are written; the items are written.

@@ -12,8 +12,6 @@ use Rattle.recorder.proofs.Sized.{too-few, enough, wrote-room}
 use Rattle.recorder.specs.InnerWords.{writtenTotal}
 use borrow.Author.Needs.{needs}
 use Rattle.recorder.proofs.write_sized.Statement.{statement}
-use Rattle.run.specs.declared.SiteCall.the-variants.{Start}
-use Rattle.rules.proofs.AskLaws.{numbers}
 use Rattle.recorder.proofs.write_sized.Tie as tie
 
 -- Landmarks: the opening is read; the events shown are found; the records are counted; the items are numbered; 14 answered yes.

@@ -16,7 +16,6 @@ use Rattle.recorder.specs.InnerWords.{checkpointWords, zonesWords}
 use Rattle.items.proofs.Writing.{none-wrote, wrote-length, more-wrote}
 use Rattle.recorder.proofs.Shown.{zones-size}
 use Rattle.recorder.proofs.write_zones.Statement.{statement}
-use Rattle.run.specs.declared.SiteCall.the-variants.{Start}
 use Rattle.recorder.proofs.write_zones.Tie as tie
 
 abbrev Inv-loop : tie.InvT-loop
