@@ -11,7 +11,7 @@ use lib.Seq.{take-append-seam}
 use lib.ListN.{length, take, drop}
 use Rattle.rules.specs.Change.{cons-if}
 use Rattle.rules.specs.Below.{sum}
-use Rattle.rules.specs.Cut.{Cut, Snapshot, run, moves, present, snapshot}
+use Rattle.rules.specs.Cut.{Cut, Snapshot, moves, present, snapshot}
 use Rattle.rules.specs.Opening as rules
 use Rattle.rules.specs.Park.{inside, total, entries, exits}
 use Rattle.rules.specs.Questions.{Question, ask, refusal, Among}

@@ -34,7 +34,6 @@ use Rattle.recording.proofs.Zones.{wordsAt, firstRun, events-are, zone-words-ar
 use Rattle.items.specs.InnerItems.{allWords, wordsAt as itemsAtIndex}
 use Rattle.recorder.specs.InnerWords.{zonesWords, shownEvents, itemsWords, recordedBytes, Fitting, sizedOutput, writtenTotal, Replayed}
 use Rattle.rules.proofs.AskLaws.{numbers}
-use Rattle.run.specs.Calls.{answer}
 use Rattle.journal.specs.Reading.{readCall, openingIn}
 use Rattle.run.specs.Opening.{openedRun}
 use Rattle.recording.specs.Journal.{recordJournal}

@@ -19,7 +19,6 @@ use Rattle.journal.proofs.Accepted.{read-comes, read-replayed}
 use Rattle.recording.specs.Call.{noRequests, snapshotOf, RecordOutput, withTotal, notRecorded, recordedTotal, recordCall}
 use Rattle.recording.specs.Layout.{mostRecordingBytes, recordingBytes}
 use Rattle.recording.proofs.Sized.{recording-most}
-use Rattle.run.specs.Calls.{answer}
 
 -- What is left of the recording call's questions.
 abbrev asked : Bool → Bool → Bool → List ℕ → RecordOutput → RecordOutput

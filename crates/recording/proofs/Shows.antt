@@ -17,7 +17,7 @@ use Rattle.rules.specs.Zone.{isPermanent}
 use Rattle.rules.specs.Site.{Item, message, request, Site, Call, send, receive, start, gate, stepS, openS}
 use Rattle.rules.specs.Park.{Move, hand, take, pass, total, entries, exits, counted, isInside, insideFrom, inside, hands, takes}
 use Rattle.rules.specs.Edition.{isTraffic}
-use Rattle.rules.specs.Cut.{Snapshot, Cut, run, moves, taking, eventsOf, stockOf}
+use Rattle.rules.specs.Cut.{Snapshot, Cut, moves, taking, eventsOf, stockOf}
 use Rattle.rules.proofs.Consistency.{consistent}
 use Rattle.rules.proofs.Conservation.{Between, recorded-total}
 use Rattle.rules.proofs.Lists.{All, all-map}

@@ -4,7 +4,6 @@ ghost use Rattle.report.specs.Wall.{wallText};
 ghost use Rattle.text.specs.Text.{Prints};
 ghost use mathlib.Core.Path.{_≡_};
 ghost use Rattle.report.specs.Choice.{chosenBy};
-ghost use Rattle.conversion.specs.declared.Conversion.the-variants.{Upgrade, Downgrade};
 ghost use Rattle.report.specs.declared.Choice.the-variants.{Named, Unknown};
 use conversion::Conversion;
 use journal::JOURNAL_BYTES;

@@ -1,6 +1,6 @@
 -- `report::report` meets its contract: the refusal of the journal or of its recording, or the recording.
 use mathlib.Core.Path.{ap}
-use Prim.Native.Nat.{ℕ, _-_}
+use Prim.Native.Nat.{ℕ}
 use native.Mathlib.Numerals.{unary-clauses}
 use native.Mathlib.Omega.{arith}
 use lib.ListN.{replicate, length-replicate}

@@ -1,6 +1,6 @@
 -- `scan::item` meets its contract: a set of zones of the site, and every message, has a word below the limit.
 use mathlib.Core.Path.{_≡_, refl, sym}
-use Prim.Native.Nat.{_^_, _+_, _-_, _*_, _%_, _≤_}
+use Prim.Native.Nat.{_^_, _+_, _*_, _%_, _≤_}
 use native.Mathlib.Omega.{arith}
 use borrow.Author.Tests.{lt-ltb, le-ltb}
 use lib.Pow.{pow-pos, pow-mono}
