@@ -23,7 +23,7 @@ use Rattle.rules.proofs.SetLaws.{has-only, has-nobody}
 use Rattle.network.specs.Network.{openNetwork, after, acceptedCalls, startsIn, networkSite}
 use Rattle.network.specs.Polls.{Poll, polledAt, OneAfterAnother, Settled, polledSite}
 use Rattle.network.proofs.Network.{network-consistent}
-use Rattle.network.proofs.Polls.{settled-complete, settled-cut}
+use Rattle.network.proofs.Polls.{settled-cut}
 use Rattle.zone.proofs.Computed.{zoneComputed}
 
 -- Zone 2 is opened full.
@@ -247,11 +247,8 @@ gates-settled : Settled 3 gatePolls gatePolls
 unfolding zoneComputed has ones onesIn
 gates-settled = record { sent-kept = λ k h. refl; taken-kept = λ k h. refl; all-taken = refl; some-permanent = (0, lit< tt, refl) }
 
--- The recording is complete, and what is shown is a consistent cut of the accepted calls, the gate calls among them: zones 1 and 2 with
--- their events before the marks, that of 0 cars too, and zone 3 not.
-pub gates-complete : Complete (networkSite 3 (after gateCalls (openNetwork 3 gated)))
-gates-complete = settled-complete 3 gated gateCalls gates-one-start (λ k. 14) (λ k. 14) (14, λ k h. (omega arith, omega arith)) gates-settled
-
+-- What is shown is a consistent cut of the accepted calls, the gate calls among them: zones 1 and 2 with their events before the marks, that of
+-- 0 cars too, and zone 3 not.
 pub gates-cut : Cut gated gateOnes gatesShown
 gates-cut = subst (λ (cs : List Call). Cut gated cs (shownBy gated cs (polledSite 3 gatePolls))) gates-accepted
     (settled-cut 3 gated gateCalls gates-one-start (λ k. 14) (λ k. 14) (14, λ k h. (omega arith, omega arith)) gates-settled)

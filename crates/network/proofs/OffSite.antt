@@ -77,10 +77,3 @@ pub numbers-kept : (cs : List Call) (n : ℕ) (net : Network) → Numbered net �
 numbers-kept [] n net num same = (num, same)
 numbers-kept (c ∷ cs) n net num same =
     numbers-kept cs n (made c net) (numbered net num c) (call-keeps (λ z. z .count) (λ z l. refl) (λ k. n) net same c)
-
--- After whatever calls, a step of a zone whose number is above the count is refused.
-pub off-site : (n : ℕ) (o : Opening) (cs : List Call) (c : Call) → n ≤ stepOf c
-    → isAccepted (answer c (after cs (openNetwork n o))) ≡ false
-off-site n o cs c h =
-    let r = numbers-kept cs n (openNetwork n o) (λ k. refl) (λ k. refl) in
-    refused-off n (after cs (openNetwork n o)) (r .0) (r .1) c h

@@ -23,10 +23,6 @@ pub yes-both : (xs ys : List Question) → AllYes (xs ++ ys) → AllYes xs × Al
 yes-both [] ys h = (tt, h)
 yes-both (x ∷ xs) ys h = let r = yes-both xs ys (h .1) in ((h .0, r .0), r .1)
 
-pub both-yes : (xs ys : List Question) → AllYes xs → AllYes ys → AllYes (xs ++ ys)
-both-yes [] ys h k = k
-both-yes (x ∷ xs) ys h k = (h .0, both-yes xs ys (h .1) k)
-
 -- A number that is not among those of a list.
 abbrev pub lacks : ℕ → List ℕ → Bool
 lacks m [] = true

@@ -37,15 +37,6 @@ module _ (z : Zone) (d : Direction) (cars : ℕ) where
   unfolding gateStep
   gate-checkpoint = step-keeps (λ (y : Zone). y .checkpoint) (gateAsks z d cars) z _ refl
 
-  -- So do the number and the count; Checks.gate-edition has the edition.
-  pub gate-number : step .zone .number ≡ z .number
-  unfolding gateStep
-  gate-number = step-keeps (λ (y : Zone). y .number) (gateAsks z d cars) z _ refl
-
-  pub gate-count : step .zone .count ≡ z .count
-  unfolding gateStep
-  gate-count = step-keeps (λ (y : Zone). y .count) (gateAsks z d cars) z _ refl
-
   module _ (is-accepted : step .refusal ≡ 0) where
     -- All its questions were answered yes.
     asked : AllYes (gateAsks z d cars) × (step ≡ accepted (withLocal z (gated d cars (localOf z))) false nobody nobody)
