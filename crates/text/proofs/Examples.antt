@@ -11,24 +11,11 @@ case-a : bytesText (
 unfolding digitCode
 case-a = refl
 
-no-bytes : bytesText [] ≡ codes "\n"
-no-bytes = refl
-
-each-digit : bytesText (0x01 ∷ 0x23 ∷ 0x45 ∷ 0x67 ∷ 0x89 ∷ 0xAB ∷ 0xCD ∷ 0xEF ∷ []) ≡ codes "01 23 45 67 89 AB CD EF\n"
+-- No bytes, every digit, and refusals of one, two and three digits.
+short-texts : (bytesText [] ≡ codes "\n") × (bytesText (0x01 ∷ 0x23 ∷ 0x45 ∷ 0x67 ∷ 0x89 ∷ 0xAB ∷ 0xCD ∷ 0xEF ∷ []) ≡ codes "01 23 45 67 89 AB CD EF\n")
+    × (refusedText 4 ≡ codes "refused 4\n") × (refusedText 13 ≡ codes "refused 13\n") × (refusedText 255 ≡ codes "refused 255\n")
 unfolding digitCode
-each-digit = refl
-
-refused-13 : refusedText 13 ≡ codes "refused 13\n"
-unfolding digitCode
-refused-13 = refl
-
-refused-4 : refusedText 4 ≡ codes "refused 4\n"
-unfolding digitCode
-refused-4 = refl
-
-refused-255 : refusedText 255 ≡ codes "refused 255\n"
-unfolding digitCode
-refused-255 = refl
+short-texts = (refl, refl, refl, refl, refl)
 
 -- Columns: of one digit, of as many as there are places, of 0, of more than there are places, and without a place.
 columns : (columnText 4 2 ≡ codes "   2") × (columnText 6 65790 ≡ codes " 65790") × (columnText 4 1000 ≡ codes "1000") × (columnText 4 0 ≡ codes "   0")
