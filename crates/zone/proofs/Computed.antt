@@ -1,4 +1,5 @@
--- What the zone part's opening, steps and numbers of a set are computed by, named once: a computed example that says `unfolding zoneComputed` unfolds all of it.
+-- What the zone part's opening, steps and numbers of a set are computed by, named once: a computed example that says `unfolding zoneComputed`
+-- unfolds all of it.
 use Prim.Native.Nat.{ℕ}
 use lib.Count.{ones, onesIn, trailingZeros}
 use Rattle.rules.specs.Edition.{isEdition, isTraffic, hasGates}
