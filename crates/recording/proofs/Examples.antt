@@ -1,7 +1,6 @@
 -- The numbers of refused recordings, by computing.
 use mathlib.Core.Path.{_≡_, refl}
 use mathlib.Core.List.{[], _∷_}
-use Rattle.run.specs.Calls.{answer}
 use Rattle.run.specs.Lists.{after}
 use Rattle.run.specs.declared.Run.{Run}
 use Rattle.recording.specs.Call.{recordCall}

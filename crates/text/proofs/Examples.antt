@@ -12,7 +12,8 @@ unfolding digitCode
 case-a = refl
 
 -- No bytes, every digit, and refusals of one, two and three digits.
-short-texts : (bytesText [] ≡ codes "\n") × (bytesText (0x01 ∷ 0x23 ∷ 0x45 ∷ 0x67 ∷ 0x89 ∷ 0xAB ∷ 0xCD ∷ 0xEF ∷ []) ≡ codes "01 23 45 67 89 AB CD EF\n")
+short-texts : (bytesText [] ≡ codes "\n")
+    × (bytesText (0x01 ∷ 0x23 ∷ 0x45 ∷ 0x67 ∷ 0x89 ∷ 0xAB ∷ 0xCD ∷ 0xEF ∷ []) ≡ codes "01 23 45 67 89 AB CD EF\n")
     × (refusedText 4 ≡ codes "refused 4\n") × (refusedText 13 ≡ codes "refused 13\n") × (refusedText 255 ≡ codes "refused 255\n")
 unfolding digitCode
 short-texts = (refl, refl, refl, refl, refl)
