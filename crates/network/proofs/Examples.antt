@@ -6,7 +6,6 @@ use mathlib.Core.Bool.{Bool, true, false, _&&_, cond, and-false}
 use mathlib.Core.List.{List, [], _∷_, _++_, tail, map}
 use Prim.Native.Nat.{ℕ, _≤_}
 use native.Mathlib.Omega.{arith}
-use lib.Count.{ones, onesIn}
 use lib.Dec.{eqb, leb, ltb, eqb→eq, leb→le, lit<}
 use Rattle.rules.specs.Opening.{Opening}
 use Rattle.rules.specs.Below.{sumBelow}
@@ -96,7 +95,7 @@ roundShown = shownBy tens (acceptedCalls fewCalls (openNetwork 4 tens)) (polledS
 pub one-round-is-not-enough : (sumBelow 4 (λ k. oneRound k .sent) ≡ 1) × (sumBelow 4 (λ k. oneRound k .taken) ≡ 1)
     × (isPermanent (oneRound 0 .zone .checkpoint) ≡ true) × (waits (after fewCalls (openNetwork 4 tens) .channel 1 3) ≡ true)
     × (total 4 (roundShown .park) ≡ 45) × (sumBelow 4 (tens .stocks) ≡ 40)
-unfolding zoneComputed has ones onesIn
+unfolding zoneComputed has
 one-round-is-not-enough = (refl, refl, refl, refl, refl, refl)
 
 -- Then zone 4 takes its request, and the traffic goes on while two rounds are made: a car leaves zone 1 and comes to zone 3 between the
@@ -120,7 +119,7 @@ abbrev polled : (ℕ → ℕ) → ℕ → Poll
 polled round k = polledAt moreCalls (openNetwork 4 tens) (round k) k
 
 two-settled : Settled 4 (polled firstRound) (polled secondRound)
-unfolding zoneComputed has ones onesIn
+unfolding zoneComputed has
 two-settled = record {
   sent-kept = λ k h. eqb→eq _ _ (below 4 (λ k. eqb (polled firstRound k .sent) (polled secondRound k .sent)) tt k h);
   taken-kept = λ k h. eqb→eq _ _ (below 4 (λ k. eqb (polled firstRound k .taken) (polled secondRound k .taken)) tt k h);
@@ -167,7 +166,7 @@ unfolding zoneComputed has
 check-accepted = refl
 
 check-settled : Settled 3 endPolls endPolls
-unfolding zoneComputed has ones onesIn
+unfolding zoneComputed has
 check-settled = record { sent-kept = λ k h. refl; taken-kept = λ k h. refl; all-taken = refl; some-permanent = (0, lit< tt, refl) }
 
 -- What is shown is a consistent cut of all the calls: zones 1 and 2 with one own event each, zone 3 not, and nothing on the line from zone 2
@@ -244,7 +243,7 @@ gates-one-start : startsIn (acceptedCalls gateCalls (openNetwork 3 gated)) ≤ 1
 gates-one-start = subst (λ (cs : List Call). startsIn cs ≤ 1) (sym gates-accepted) (omega arith)
 
 gates-settled : Settled 3 gatePolls gatePolls
-unfolding zoneComputed has ones onesIn
+unfolding zoneComputed has
 gates-settled = record { sent-kept = λ k h. refl; taken-kept = λ k h. refl; all-taken = refl; some-permanent = (0, lit< tt, refl) }
 
 -- What is shown is a consistent cut of the accepted calls, the gate calls among them: zones 1 and 2 with their events before the marks, that of

@@ -6,3 +6,4 @@ pub mod Quiet
 pub mod Polls
 pub mod Cars
 pub mod Examples
+pub mod Stays

@@ -38,7 +38,7 @@ after-append (x ∷ xs) ys net = after-append xs ys (made x net)
 -- A number that is counted call by call: the counters of a zone, and the accepted starts.
 module _ (by : List Call → Network → ℕ) (each : Call → Network → ℕ) (none : (net : Network) → by [] net ≡ 0)
     (more : (c : Call) (cs : List Call) (net : Network) → by (c ∷ cs) net ≡ each c net + by cs (made c net)) where
-  by-append : (xs ys : List Call) (net : Network) → by (xs ++ ys) net ≡ by xs net + by ys (after xs net)
+  pub by-append : (xs ys : List Call) (net : Network) → by (xs ++ ys) net ≡ by xs net + by ys (after xs net)
   by-append [] ys net = let z = none net in omega arith
   by-append (x ∷ xs) ys net =
       let p = more x (xs ++ ys) net in
