@@ -8,6 +8,8 @@ their top, and what stands below docs/, c/, tests/, tools/ and crates/. Document
 for as RULES.md and c/desk.c as desk.c; c/cut/zone.h is looked for in include/cut. What stands below tests/, tools/ and crates/ is never
 installed: a document may name it where its front, up to the first heading of the second level, says that such names are "of the sources".
 
+A link leads from where its document lies.
+
 Prints a line for each file and name that is not there; exits 1 if there is one.
 """
 import pathlib
@@ -15,6 +17,7 @@ import re
 import sys
 
 NAME = re.compile(r"(?<![\w./-])(?:(?:docs|c|tests|tools|crates)/[\w*-]+(?:[./][\w*-]+)*|[A-Z]+\.md)(?![\w/])")
+LINK = re.compile(r"\]\((?!https?:)([^)#\s]+)[^)]*\)")
 OF_THE_SOURCES = ("tests/", "tools/", "crates/")
 
 
@@ -40,6 +43,9 @@ def missing(prefix):
         for name in sorted(set(NAME.findall(text))):
             if not is_installed(name, docs, headers) and not (says and name.startswith(OF_THE_SOURCES)):
                 yield f"{file.relative_to(prefix)}: {name}"
+        for link in LINK.findall(text) if file.suffix == ".md" else ():
+            if not (file.parent / link).exists():
+                yield f"{file.relative_to(prefix)}: the link to {link}"
 
 
 if __name__ == "__main__":
