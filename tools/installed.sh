@@ -49,6 +49,10 @@ needs=$(nm -P --undefined-only --dynamic "$libdir/libcut.so" | sed 's/[@ ].*//' 
 [ "$needs" = "memcpy memset " ] || fail "libcut.so needs $needs"
 readelf -d "$libdir/libcut.so" | grep -q "soname: \[libcut.so.${version%%.*}\]" || fail "libcut.so has another soname."
 
+# A call stays under the version that had it first: the parts of versions that were delivered are as they were, and the rest stands behind them.
+sed -n '/^CUT_/,$p' c/cut.map | head -n "$(wc -l <tests/delivered.map)" | cmp - tests/delivered.map ||
+    fail "c/cut.map moves a call of a version that was delivered."
+
 # Each header alone, and two in either order; and no macro without the prefix.
 cd "$scratch"
 c="gcc -std=c11 -Wall -Wextra -Wpedantic -Werror -O2 $flags"

@@ -8,7 +8,8 @@ are their public functions, those for C among them, in every file of src. Each h
 
 The checker sees that it is true; by `Keeps` it then also says that the function asks nothing of its caller. It is an error if
 - an entry point has no such theorem, or has a `requires`;
-- its FACT does not name the answer, or, of a parameter that is lent by `&mut`, what is left there: `now (PARAMETER .exit)`;
+- its FACT does not name the answer, or, of a parameter that is lent by `&mut`, what is left there: `now (PARAMETER .exit)`; or says that something
+  is itself;
 - another crate has a public function and INNER does not name it, or a function for C;
 - INNER or INNER_FUNCTIONS name a crate or a function that has no need of it: it is not there, or it is promised;
 - a source or a module has a block comment, a part passes a function on by `pub use`, or a type holds a `&mut`: what is public, lent or
@@ -56,7 +57,7 @@ TYPE = re.compile(r"\b(?:struct|enum|type)\s+(\w+)[^;{]*(?:\{[^}]*\}|;)")
 ANSWER = re.compile(r"\s*->.*?(?=\brequires\b|\bensures\b|\{)", re.S)
 CLAUSE = re.compile(r"\s*(\w+)\s*\{")
 IMPORT = re.compile(r"^use Rattle·(\w+)\.proofs as (\S+)$", re.M)
-KEEPS = "use Rattle.promises.specs.Promise.{Keeps}"
+NEEDED = {" : Keeps ": "use Rattle.promises.specs.Promise.{Keeps}", " ≡ ": "use mathlib.Core.Path.{_≡_}"}
 PROMISE = re.compile(r"(?:pub )?(\S+) : Keeps (\S+)\.ended (\S+)\.Symbol\.routine (\(λ ([^.()]*)\. (.*)\))")
 CLOSING = {"(": ")", "[": "]", "{": "}", "<": ">"}
 
@@ -81,6 +82,20 @@ def split(text):
         else:
             parts[-1] += c
     return [p.strip() for p in parts if p.strip()]
+
+
+def outside(text, sign):
+    """What stands between a sign that is not inside brackets; brackets around the whole are taken off."""
+    while text.startswith("(") and closed(text, 0) == len(text):
+        text = text[1:-1].strip()
+    parts, depth = [""], 0
+    for c in text:
+        depth += (c in "([{") - (c in ")]}")
+        parts[-1] += c
+        if depth == 0 and parts[-1].endswith(sign):
+            parts[-1] = parts[-1][: -len(sign)]
+            parts.append("")
+    return parts
 
 
 def signature(text, at):
@@ -110,9 +125,12 @@ def public(crate, wrong):
         if re.search(r"\bpub\b\s*(?:\([^)]*\)\s*)?use\b", text):
             wrong.append(f"{path.relative_to(ROOT)}: a `pub use`, which could pass on a function without a promise")
         scopes = [(m.start(), closed(text, m.end() - 1), m[1]) for m in SCOPE.finditer(text)]
-        file = [p for p in path.relative_to(src).with_suffix("").parts if p not in ("lib", "main", "mod")]
+        file = path.relative_to(src).with_suffix("").parts
+        file = () if file in (("lib",), ("main",)) else file
         for m in FUNCTION.finditer(text):
             name = "::".join([crate, *file, *(s for a, b, s in scopes if a < m.start() < b), m[2]])
+            if name in found:
+                wrong.append(f"{path.relative_to(ROOT)}: two functions are {name}")
             found[name] = ("extern" in m[1], *signature(text, m.end()))
     return found
 
@@ -127,8 +145,9 @@ def promised(wrong):
         text = re.sub(r" *--.*", "", text)
         crates = {alias: crate for crate, alias in IMPORT.findall(text)}
         parts.update(crates.values())
-        if crates and KEEPS not in text.split("\n"):
-            wrong.append(f"{where}: no line `{KEEPS}`")
+        for sign, line in NEEDED.items():
+            if crates and sign in text and line not in text.split("\n"):
+                wrong.append(f"{where}: no line `{line}`")
         for line in filter(None, map(PROMISE.fullmatch, re.sub(r"\n +", " ", text).split("\n"))):
             name, ended, routine, whole, binders, fact = line.groups()
             alias, *rest = re.sub("[«»]", "", ended).split(".")
@@ -145,6 +164,10 @@ def unnamed(function, parameters, answers, promise):
         return
     if answers and names[-1] not in re.split(r'[\s(){}.;,@"«»]+', fact):
         yield f"{where} does not name the answer of {function}, {names[-1]}"
+    for equation in outside(fact, " × "):
+        sides = outside(equation, " ≡ ")
+        if len(set(sides)) < len(sides):
+            yield f"{where} says of {function} that {sides[0]} is itself"
     for name, parameter in zip(names[1:], parameters):
         if LENT.search(parameter) and f"now ({name} .exit)" not in fact:
             yield f"{where} does not name what {function} leaves of `{parameter}`: now ({name} .exit)"

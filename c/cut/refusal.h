@@ -108,7 +108,7 @@ enum cut_mark_kind {
 #endif
 
 /* How a call that the headers themselves define is defined: inline in a program in C or C++. The library has these calls too, by the same text and
- * under the same names, for programs in other languages; its sources define this as nothing before they include the header. */
+ * under the same names, for programs in other languages; its sources, and no program, define this as nothing before they include the header. */
 #ifndef CUT_INLINE
 #define CUT_INLINE static inline
 #endif

@@ -201,6 +201,11 @@ table =
     -- A dependency set that names a zone off the site: zone 3 of 2, zone 8 of 2.
     ++ unsound (zoneIn 3 1 2 5 5 3 None)
     ++ unsound (zoneIn 3 1 2 5 129 3 None)
+    -- A site of 1 zone and one of 9; zone 0, and zone 3 of 2.
+    ++ unsound (zoneIn 3 1 1 5 1 3 None)
+    ++ unsound (zoneIn 3 1 9 5 1 3 None)
+    ++ unsound (zoneIn 3 0 2 5 1 3 None)
+    ++ unsound (zoneIn 3 3 2 5 1 3 None)
     -- The number of requests: to nobody, to one zone, to several, to all eight.
     ++ counts 0 0
     ∷ counts 1 1
