@@ -14,17 +14,15 @@ use Rattle.rules.specs.Change.{on, join}
 use Rattle.rules.specs.Edition.{isEdition}
 use Rattle.rules.specs.Sets.{has, nobody}
 use Rattle.rules.specs.Site.{Item, message, request, Call, send, receive, start, gate}
-use Rattle.rules.specs.Zone.{isPermanent, checkpointAfter, requested, targets, carried}
-use Rattle.rules.specs.declared.Checkpoint.{Checkpoint}
-use Rattle.rules.specs.declared.Checkpoint.the-variants.{None, Mutable, Permanent}
+use Rattle.rules.specs.Zone.{isPermanent, requested, targets, carried}
 use Rattle.rules.specs.declared.Direction.{Direction}
 use Rattle.rules.specs.declared.Local.{Local}
-use Rattle.rules.specs.declared.Saved.{Saved}
 use Rattle.rules.specs.Questions.{isCount, isOn, index}
 use Rattle.rules.proofs.Editions.{sent-keeps, received-keeps}
 use Rattle.rules.proofs.Guarded.{on-same-at}
 use Rattle.rules.proofs.Members.{within-difference}
 use Rattle.rules.proofs.SetLaws.{has-nobody}
+use Rattle.rules.proofs.ShownCheckpoint.{shown, after-shown}
 use Rattle.rules.proofs.Tests.{and-left, and-right, both-true}
 use Rattle.local.specs.Requesting.{requestingAs, requestedBy, startedBy}
 use Rattle.zone.specs.Zone.{localOf, isZoneSound, requestingStep, sendStep, receiveStep, requestStep, startStep, gateStep}
@@ -39,22 +37,6 @@ abbrev pub requestsOn : List Item → ℕ
 requestsOn [] = 0
 requestsOn (message cars flag ∷ l) = requestsOn l
 requestsOn (request set ∷ l) = suc (requestsOn l)
-
--- What is shown of a checkpoint: a mutable one ("provisional") is shown as none.
-abbrev pub shown : Checkpoint → Checkpoint
-shown None = None
-shown (Mutable s) = None
-shown (Permanent s) = Permanent s
-
--- What does not tell a mutable checkpoint from none depends on what is shown alone.
-pub by-shown : {A : Type 0} (f : Checkpoint → A) → ((s : Saved) → f (Mutable s) ≡ f None) → (c d : Checkpoint) → shown c ≡ shown d
-    → f c ≡ f d
-by-shown {A} f e c d q = is c ∙ ap f q ∙ sym (is d)
-  where
-    is : (c : Checkpoint) → f c ≡ f (shown c)
-    is None = refl
-    is (Mutable s) = e s
-    is (Permanent s) = refl
 
 -- ---- the answer of a zone
 
@@ -78,15 +60,9 @@ received-answered : (z : Zone) (from cars : ℕ) (flag : Bool) → eqb (receiveS
 received-answered z from cars flag e = subst (Answered z false) (sym (receive-step z from cars flag e .0))
     (record {
       to-within = pow-pos (z .count);
-      shown-kept = λ _. received-keeps (z .edition) cars (localOf z) (ShownAs z) (index from) flag (λ q. kept (z .checkpoint) _ flag) refl;
+      shown-kept = λ _. received-keeps (z .edition) cars (localOf z) (ShownAs z) (index from) flag (λ q. after-shown (z .checkpoint) _ flag) refl;
       none-sent = λ _. refl;
     })
-  where
-    kept : (k : Checkpoint) (now : Saved) (flag : Bool) → shown (checkpointAfter k now flag) ≡ shown k
-    kept None now true = refl
-    kept None now false = refl
-    kept (Mutable s) now flag = refl
-    kept (Permanent s) now flag = refl
 
 gated-answered : (z : Zone) (d : Direction) (cars : ℕ) → eqb (gateStep z d cars .refusal) 0 ≡ true → Answered z false (gateStep z d cars)
 gated-answered z d cars e = subst (Answered z false) (sym (gate-step z d cars e .0))

@@ -11,12 +11,13 @@ use Rattle.rules.specs.Opening.{Opening}
 use Rattle.rules.specs.Park.{inside}
 use Rattle.rules.specs.Site.{Item, message, request, Site, Call, openS, waits}
 use Rattle.rules.specs.Zone.{isPermanent}
+use Rattle.rules.proofs.ShownCheckpoint.{shown, by-shown}
 use Rattle.rules.proofs.Sums.{sum-same}
 use Rattle.rules.proofs.Tests.{Same, same?, below?}
 use Rattle.network.specs.Network.{Network, openNetwork, made, after, acceptedCalls, startsIn, networkSite}
 use Rattle.network.specs.Polls.{sentIn, takenIn, sentBy, takenBy, Poll, polledAt, OneAfterAnother, Settled, polledSite}
 use Rattle.network.proofs.Network.{network-consistent, network-shows}
-use Rattle.network.proofs.Effects.{requestsOn, shown, by-shown}
+use Rattle.network.proofs.Effects.{requestsOn}
 use Rattle.network.proofs.Balance.{site-after, site-open, requests-balance, none-anywhere}
 use Rattle.network.proofs.Quiet.{shownAt, permanentAt, shown-permanent, starts, startIn, starts-more, shown-between, Quiet, quiet-after, shown-quiet, started-before, shown-off, silent-stays}
 

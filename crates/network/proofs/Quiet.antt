@@ -19,7 +19,8 @@ use Rattle.rules.proofs.Sums.{sum-zero, sums-zero}
 use Rattle.rules.proofs.Tests.{Same, same?, not-both}
 use Rattle.network.specs.Network.{Network, openNetwork, answer, isAccepted, made, after, acceptedCalls, startsIn}
 use Rattle.network.specs.Polls.{stepOf, sentIn, takenIn, takesRequest, sentBy, takenBy}
-use Rattle.network.proofs.Effects.{shown, by-shown, isStart, sendsTo, turns, effect}
+use Rattle.rules.proofs.ShownCheckpoint.{shown, by-shown}
+use Rattle.network.proofs.Effects.{isStart, sendsTo, turns, effect}
 use Rattle.network.proofs.Balance.{requestsWaiting, OnSite, refused-at, site-made, site-open, sent-in, none-begins, call-balance, none-anywhere}
 
 -- What is shown of zone k, and whether its checkpoint is permanent.

@@ -15,6 +15,7 @@ pub mod Cutting
 pub mod Counting
 pub mod Shown
 pub mod Consistency
+pub mod ShownCheckpoint
 pub mod Stays
 pub mod Sums
 pub mod Conservation

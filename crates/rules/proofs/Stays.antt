@@ -8,64 +8,33 @@ use native.Mathlib.Omega.{arith}
 use lib.Dec.{eqb}
 use Rattle.rules.specs.Opening.{Opening}
 use Rattle.rules.specs.Change.{join}
-use Rattle.rules.specs.Zone.{isPermanent, saved, checkpointAfter, sentUnder, receivedUnder, gated}
+use Rattle.rules.specs.Zone.{isPermanent, saved, sentUnder, receivedUnder, gated}
 use Rattle.rules.specs.Site.{Item, message, request, Site, takeS, Call, send, receive, start, gate, stepS, openS, waits}
 use Rattle.rules.specs.Park.{Move, own, inside}
 use Rattle.rules.specs.Cut.{May, Allowed, run, moveOf, moves, Complete, eventsOf, stockOf, channelOf, snapshot}
 use Rattle.rules.specs.declared.Local.{Local}
-use Rattle.rules.specs.declared.Saved.{Saved}
 use Rattle.rules.specs.declared.Checkpoint.{Checkpoint}
 use Rattle.rules.specs.declared.Checkpoint.the-variants.{None, Mutable, Permanent}
 use Rattle.rules.proofs.Editions.{sent-keeps, received-keeps}
 use Rattle.rules.proofs.Guarded.{on-same, on-keeps}
 use Rattle.rules.proofs.History.{openH, history, now-run, moves-open, allowed-append}
 use Rattle.rules.proofs.Kept.{fresh-open, calls-keep}
+use Rattle.rules.proofs.ShownCheckpoint.{shown, by-shown, after-shown}
 use Rattle.rules.proofs.Counting.{eventsAt, Counts, counts-kept, counts-open, inside-later}
-
--- What a recording shows of a checkpoint: a permanent one, and any other as none.
-abbrev shownOf : Checkpoint → Checkpoint
-shownOf None = None
-shownOf (Mutable s) = None
-shownOf (Permanent s) = Permanent s
-
-permanent-shown : (k : Checkpoint) → isPermanent (shownOf k) ≡ isPermanent k
-permanent-shown None = refl
-permanent-shown (Mutable s) = refl
-permanent-shown (Permanent s) = refl
-
-events-shown : (k : Checkpoint) → eventsOf (shownOf k) ≡ eventsOf k
-events-shown None = refl
-events-shown (Mutable s) = refl
-events-shown (Permanent s) = refl
-
-stock-shown : (k : Checkpoint) (opening : ℕ) → stockOf (shownOf k) opening ≡ stockOf k opening
-stock-shown None opening = refl
-stock-shown (Mutable s) opening = refl
-stock-shown (Permanent s) opening = refl
-
--- A zone's own event changes nothing of this: the receipt of a message with the flag makes a mutable checkpoint at most.
-after-shown : (k : Checkpoint) (now : Saved) (flag : Bool) → shownOf (checkpointAfter k now flag) ≡ shownOf k
-after-shown None now true = refl
-after-shown None now false = refl
-after-shown (Mutable s) now flag = refl
-after-shown (Permanent s) now flag = refl
 
 -- Two sites of which a recording shows the same zones.
 abbrev Unmoved : Site → Site → Type 0
-Unmoved s t = (z : ℕ) → shownOf (t .zone z .checkpoint) ≡ shownOf (s .zone z .checkpoint)
+Unmoved s t = (z : ℕ) → shown (t .zone z .checkpoint) ≡ shown (s .zone z .checkpoint)
 
 module _ (s t : Site) (same : Unmoved s t) (z : ℕ) where
   same-permanent : isPermanent (t .zone z .checkpoint) ≡ isPermanent (s .zone z .checkpoint)
-  same-permanent = sym (permanent-shown (t .zone z .checkpoint)) ∙ ap isPermanent (same z) ∙ permanent-shown (s .zone z .checkpoint)
+  same-permanent = by-shown isPermanent (λ k. refl) (t .zone z .checkpoint) (s .zone z .checkpoint) (same z)
 
   same-events : eventsOf (t .zone z .checkpoint) ≡ eventsOf (s .zone z .checkpoint)
-  same-events = sym (events-shown (t .zone z .checkpoint)) ∙ ap eventsOf (same z) ∙ events-shown (s .zone z .checkpoint)
+  same-events = by-shown eventsOf (λ k. refl) (t .zone z .checkpoint) (s .zone z .checkpoint) (same z)
 
   same-stock : (opening : ℕ) → stockOf (t .zone z .checkpoint) opening ≡ stockOf (s .zone z .checkpoint) opening
-  same-stock opening =
-      sym (stock-shown (t .zone z .checkpoint) opening)
-      ∙ ap (λ (k : Checkpoint). stockOf k opening) (same z)
-      ∙ stock-shown (s .zone z .checkpoint) opening
+  same-stock opening = by-shown (λ k. stockOf k opening) (λ k. refl) (t .zone z .checkpoint) (s .zone z .checkpoint) (same z)
 
 -- No request joins a channel by a message, and none by an item that leaves.
 waits-message : (l : List Item) (cars : ℕ) (flag : Bool) → waits l ≡ false → waits (join (message cars flag) l) ≡ false
@@ -85,8 +54,8 @@ Quiet s = (i j : ℕ) → waits (s .channel i j) ≡ false
 -- One call at a site with a complete recording.
 step-stays : (c : Call) (s : Site) → Complete s → May c s → Unmoved s (stepS c s) × Quiet (stepS c s)
 step-stays (send a b cars) s done may = (
-  λ z. on-same (λ (k : Local). shownOf (k .checkpoint)) (eqb z a) (sentUnder (s .edition) cars) (s .zone z)
-      (sent-keeps (s .edition) cars (s .zone z) (λ (k : Local). shownOf (k .checkpoint) ≡ shownOf (s .zone z .checkpoint)) (λ q. q) refl),
+  λ z. on-same (λ (k : Local). shown (k .checkpoint)) (eqb z a) (sentUnder (s .edition) cars) (s .zone z)
+      (sent-keeps (s .edition) cars (s .zone z) (λ (k : Local). shown (k .checkpoint) ≡ shown (s .zone z .checkpoint)) (λ q. q) refl),
   λ i j. on-keeps (λ (l : List Item). waits l ≡ false) (eqb i a && eqb j b) (join _) (s .channel i j)
       (waits-message (s .channel i j) cars _) (done .1 i j),
 )
@@ -95,15 +64,15 @@ step-stays (receive a b) s done may = go (s .channel a b) (done .1 a b)
     go : (l : List Item) → waits l ≡ false → Unmoved s (takeS a b l s) × Quiet (takeS a b l s)
     go [] e = (λ z. refl, done .1)
     go (message cars flag ∷ l) e = (
-      λ z. on-same (λ (k : Local). shownOf (k .checkpoint)) (eqb z b) (receivedUnder (s .edition) a cars flag) (s .zone z)
-          (received-keeps (s .edition) cars (s .zone z) (λ (k : Local). shownOf (k .checkpoint) ≡ shownOf (s .zone z .checkpoint)) a flag
+      λ z. on-same (λ (k : Local). shown (k .checkpoint)) (eqb z b) (receivedUnder (s .edition) a cars flag) (s .zone z)
+          (received-keeps (s .edition) cars (s .zone z) (λ (k : Local). shown (k .checkpoint) ≡ shown (s .zone z .checkpoint)) a flag
           (λ q. after-shown (s .zone z .checkpoint) (saved (s .zone z)) flag) refl),
       λ i j. on-keeps (λ (m : List Item). waits m ≡ false) (eqb i a && eqb j b) tail (s .channel i j) (waits-left (s .channel i j)) (done .1 i j),
     )
     go (request set ∷ l) e = absurd (true≢false e)
 step-stays (start a) s done may = absurd (true≢false (sym (done .0 .1) ∙ may (done .0 .0)))
 step-stays (gate direction a cars) s done may =
-    (λ z. on-same (λ (k : Local). shownOf (k .checkpoint)) (eqb z a) (gated direction cars) (s .zone z) refl, done .1)
+    (λ z. on-same (λ (k : Local). shown (k .checkpoint)) (eqb z a) (gated direction cars) (s .zone z) refl, done .1)
 
 step-complete : (c : Call) (s : Site) → Complete s → May c s → Complete (stepS c s)
 step-complete c s done may =
