@@ -1,5 +1,8 @@
 // Reads journals, each behind its length in 16 bits, high byte first, and prints the texts of each, that of its recording, that of its page, and
 // for each conversion the bytes that it gives or its refusal: the stored journals and texts are those of the second implementation.
+
+#![tactic(auto)]
+
 ghost use Rattle.std.specs.Prelude.{◌≤◌, ◌≡◌, length};
 
 use conversion::Conversion;

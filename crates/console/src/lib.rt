@@ -1,5 +1,8 @@
 // Argument, standard input and output of the programs: the input is read until it ends or the space is full, and an answer written whole. Where a
 // read or a write fails it is said on standard error, since a Rattle program has no exit status to tell it by.
+
+#![tactic(auto)]
+
 ghost use Rattle.std.specs.Prelude.{◌≡◌, ℕ, ◌+◌, ◌≤◌, length, take};
 ghost use Rattle.console.specs.Input.{input_of};
 ghost use Rattle.console.specs.declared.Input.TheVariants.{Bytes};

@@ -1,5 +1,8 @@
 // A controller's calls: it keeps its one zone and lends it to every call. Each runs the zone part's step by value and stores the next
 // zone; the answer is the step's. Opening a zone needs no loan: it is the zone part's own.
+
+#![tactic(auto)]
+
 ghost use Rattle.std.specs.Prelude.{◌≡◌};
 ghost use Rattle.rules.specs.declared.Direction.TheVariants.{In, Out};
 ghost use Rattle.zone.specs.Zone.{send_step, receive_step, request_step, start_step, gate_step};

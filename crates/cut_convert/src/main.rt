@@ -1,6 +1,9 @@
 // Reads a journal from standard input and writes it, converted to another edition, to standard output. The argument names the conversion: `upgrade`
 // from edition 1 to edition 3, or `downgrade` back. A refusal, and how the program is called where the argument is neither, go to standard error,
 // so that nothing but a journal stands in the output.
+
+#![tactic(auto)]
+
 use journal::JOURNAL_BYTES;
 use programs::Job;
 use report::Choice;

@@ -1,4 +1,7 @@
 // Reads a journal from standard input and prints the page of its recording, or the refusal, to standard output.
+
+#![tactic(auto)]
+
 use page::PAGE_BYTES;
 use programs::Job;
 

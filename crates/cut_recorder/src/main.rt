@@ -1,4 +1,7 @@
 // Reads a journal from standard input and prints its recording, or the refusal, to standard output.
+
+#![tactic(auto)]
+
 use programs::Job;
 use report::TEXT_BYTES;
 

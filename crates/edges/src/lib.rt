@@ -1,1 +1,3 @@
 // The proved table of worked edges (docs/RULES.md, case A, case B and edges).
+
+#![tactic(auto)]

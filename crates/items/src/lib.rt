@@ -1,4 +1,7 @@
 // The items of a recording: the journal's records counted by channel, and the items of each channel written as words.
+
+#![tactic(auto)]
+
 ghost use Rattle.std.specs.Prelude.{◌≡◌, cond, ◌-◌, ◌*◌, ◌/◌, ◌<◌, ◌≤◌, length, get_or};
 ghost use Rattle.rules.specs.Limits.{most_records};
 ghost use Rattle.channel.specs.Channels.{most_channels};

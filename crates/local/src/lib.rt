@@ -1,5 +1,8 @@
 // The steps of one zone's local state, without questions: what the zone part and the site engine both run. Each is a rule of the
 // rules' specs/Zone.antt, or of this crate's specs/Requesting.antt. Zones are named by index: the number less one.
+
+#![tactic(auto)]
+
 ghost use Rattle.std.specs.Prelude.{◌≡◌, ◌+◌, ◌<◌, ◌≤◌};
 ghost use Rattle.rules.specs.Limits.{most_zones, most_cars, most_records};
 ghost use Rattle.rules.specs.Zone.{has_checkpoint, is_permanent, opened, sent_under, deps_after, checkpoint_after, received_under, needed, through, gated, with_checkpoint};

@@ -1,4 +1,7 @@
 // The page for the wall: what a recording shows, as text for a person (docs/RULES.md, section 8).
+
+#![tactic(auto)]
+
 use rules::ZONES;
 
 // A line of the page: 16 characters and a line feed.

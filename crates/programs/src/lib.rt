@@ -1,4 +1,7 @@
 // What the programs do: each reads a journal from standard input and writes what its job makes of it to standard output.
+
+#![tactic(auto)]
+
 ghost use Rattle.std.specs.Prelude.{◌≤◌, length};
 
 use console::Input;

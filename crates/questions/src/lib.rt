@@ -1,4 +1,7 @@
 // The questions (docs/RULES.md, section 7) that several parts ask, over numbers alone.
+
+#![tactic(auto)]
+
 ghost use Rattle.std.specs.Prelude.{◌≡◌, ◌≤◌};
 ghost use Rattle.rules.specs.Limits.{most_zones};
 ghost use Rattle.rules.specs.Questions.{is_count, is_on};

@@ -1,4 +1,7 @@
 // The recording of a run, written as bytes (docs/RULES.md, sections 5 and 8).
+
+#![tactic(auto)]
+
 ghost use Rattle.recording.specs.declared.Recorded.{Recorded};
 ghost use Rattle.recording.specs.declared.JournalRecorded.{JournalRecorded};
 

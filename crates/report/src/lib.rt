@@ -1,4 +1,7 @@
 // The programs' texts (docs/RULES.md, section 9): a journal in, its recording or its page out; and which conversion an argument names.
+
+#![tactic(auto)]
+
 ghost use Rattle.report.specs.Report.{report_text};
 ghost use Rattle.report.specs.Wall.{wall_text};
 ghost use Rattle.text.specs.Text.{Prints};

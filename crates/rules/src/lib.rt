@@ -1,6 +1,8 @@
 // The types and limits that the rules of mutable checkpointing speak of. The rules themselves are definitions (specs/), to be read beside
 // docs/RULES.md, sections 3 to 5 and demand 3, and the theorem over them stands in proofs/; this crate has no function.
 
+#![tactic(auto)]
+
 // The limits (docs/RULES.md, section 2) by their names in specs/Limits.antt, each in the type of the number that it bounds.
 pub const FEWEST_ZONES: u8 = 2;
 
@@ -24,21 +26,21 @@ pub const PLACES: usize = MOST_ITEMS as usize;
 pub const RECORDS: usize = MOST_RECORDS as usize;
 
 // The ways through a gate ("direction"): cars drive in from the street, or out to it.
-#[derive(Drop)]
+#[derive(Clone, Copy)]
 pub enum Direction {
     In,
     Out,
 }
 
 // The stock and the number of own events that a checkpoint keeps.
-#[derive(Drop)]
+#[derive(Clone, Copy)]
 pub struct Saved {
     pub stock: u16,
     pub events: u16,
 }
 
 // A checkpoint ("mark"): none, mutable ("provisional") or permanent ("firm").
-#[derive(Drop)]
+#[derive(Clone, Copy)]
 pub enum Checkpoint {
     None,
     Mutable(Saved),
@@ -46,7 +48,7 @@ pub enum Checkpoint {
 }
 
 // The local state of one zone (docs/RULES.md, section 3). Its number, the zone count and the edition stand beside it.
-#[derive(Drop)]
+#[derive(Clone, Copy)]
 pub struct Local {
     pub stock: u16,
     pub deps: u8,

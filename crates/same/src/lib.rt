@@ -1,4 +1,7 @@
 // Whether two states are the same over the zones and channels of a site: what the fuller form of question 1 compares.
+
+#![tactic(auto)]
+
 ghost use Rattle.std.specs.Prelude.{◌≡◌, ◌<◌, ◌≤◌, length};
 ghost use Rattle.rules.specs.Limits.{most_zones};
 ghost use Rattle.channel.specs.Channels.{most_channels, most_words, channels_as};

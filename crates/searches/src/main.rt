@@ -1,5 +1,8 @@
 // Reads states of the channels, each the 64 lengths, the index of a zone and a set, and prints for each what the search for a full channel
 // answers. No call shows the zone that it names: here the function itself runs, beside the second implementation.
+
+#![tactic(auto)]
+
 use channel::CHANNELS;
 use libc::{STDIN_FILENO, STDOUT_FILENO};
 use rules::ZONES;

@@ -1,5 +1,8 @@
 // The text that the programs print, written to lent bytes: bytes as digits, refusals, numbers in columns; and whether two texts are the same.
 // Where the bytes that are lent for a text are too few nothing is written, and the answer is 0.
+
+#![tactic(auto)]
+
 ghost use Rattle.std.specs.Prelude.{◌≡◌, ◌+◌, ◌<◌, ◌≤◌, length};
 ghost use Rattle.std.proofs.lemmas.List.Edits.{sets};
 ghost use Rattle.text.specs.Text.{digit_code, bytes_text, decimal_text, column_text, refused_word, refused_text, Prints};

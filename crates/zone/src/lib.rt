@@ -1,5 +1,8 @@
 // The zone part: one zone's state and its steps, for a controller that has lines of its own. Each step takes the zone and hands back the
 // next one, and answers the number of the first question (docs/RULES.md, section 7) that was answered no, or 0.
+
+#![tactic(auto)]
+
 ghost use Rattle.std.specs.Prelude.{◌≡◌, [], ◌∷◌, ◌≤◌};
 ghost use Rattle.rules.specs.Limits.{most_zones};
 ghost use Rattle.rules.specs.Questions.{refusal};

@@ -1,5 +1,8 @@
 // The zone part for C: the same steps over a plain struct, since an enum is not exported. The header is c/cut/zone.h. A mark kind above 2 is
 // unsound and meets 1; a refused struct comes back equal in every field.
+
+#![tactic(auto)]
+
 ghost use Rattle.std.specs.Prelude.{◌≡◌};
 ghost use Rattle.rules.specs.Sets.{size};
 ghost use Rattle.rules.specs.declared.Direction.TheVariants.{In, Out};
