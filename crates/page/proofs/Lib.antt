@@ -6,4 +6,3 @@ pub mod Whole
 pub mod Outcome
 pub mod Computed
 pub mod Examples
-pub mod Separate

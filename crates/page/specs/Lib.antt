@@ -2,4 +2,3 @@ pub mod Layout
 pub mod Call
 pub mod Journal
 pub mod Claims
-pub mod Separate

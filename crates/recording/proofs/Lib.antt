@@ -13,4 +13,3 @@ pub mod Totals
 pub mod Computed
 pub mod Examples
 pub mod Asked
-pub mod Separate

@@ -50,16 +50,13 @@ abbrev pub not_recorded : List ℕ → ℕ → RecordOutput
 not_recorded lent n = with_total 0 (refused_output lent n)
 
 -- "Recording: 1, 12, 13, 14": the questions of a call that writes these bytes of a run's recording.
-abbrev pub questions_from : (replayed started : Bool) → (count : ℕ) → Channels → (bytes lent : List ℕ) → List Question
-questions_from replayed started count l bytes lent =
-    question 1 replayed
-    ∷ question 12 started
-    ∷ question 13 (no_requests count l)
+abbrev pub recording_questions : Run → (bytes lent : List ℕ) → List Question
+recording_questions r bytes lent =
+    question 1 (is_replayed r)
+    ∷ question 12 (has_started r.head)
+    ∷ question 13 (no_requests (count_of r.head) r.channels)
     ∷ question 14 (leb (length bytes) (length lent))
     ∷ []
-
-abbrev pub recording_questions : Run → (bytes lent : List ℕ) → List Question
-recording_questions r bytes lent = questions_from (is_replayed r) (has_started r.head) (count_of r.head) r.channels bytes lent
 
 unfoldable pub record_call : Run → List ℕ → RecordOutput
 record_call r lent =

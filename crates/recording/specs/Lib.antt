@@ -4,4 +4,3 @@ pub mod InnerRecords
 pub mod Shown
 pub mod InnerTotal
 pub mod Journal
-pub mod Separate

@@ -85,15 +85,6 @@ sum_to f e = ap (λ (m : ℕ). sum_below m f) e
 pub any-to : (f : ℕ → Bool) {i n : ℕ} → i ≡ n → any_below i f ≡ any_below n f
 any-to f e = ap (λ (m : ℕ). any_below m f) e
 
--- Tests that agree below n.
-pub all_same : (n : ℕ) (f g : ℕ → Bool) → ((i : ℕ) → i < n → f i ≡ g i) → all_below n f ≡ all_below n g
-all_same zero f g h = refl
-all_same (suc n) f g h = rw (all_same n f g (λ i b. h i (omega arith)), h n (omega arith))
-
-pub any_same : (n : ℕ) (f g : ℕ → Bool) → ((i : ℕ) → i < n → f i ≡ g i) → any_below n f ≡ any_below n g
-any_same zero f g h = refl
-any_same (suc n) f g h = rw (any_same n f g (λ i b. h i (omega arith)), h n (omega arith))
-
 -- One number more.
 pub all-next : (f : ℕ → Bool) (i : ℕ) {s r : Bool} → s ≡ all_below i f → r ≡ f i → s && r ≡ all_below (i + 1) f
 all-next f i e g = rw (add-one i, e, g)

@@ -9,8 +9,7 @@ use lib.Dec.{leb, ltb, eqb}
 use lib.ListN.{get_or, take, drop}
 use lib.Pow.{pow_pos}
 use lib.Seq.{get_or-take, get_or-drop}
-use borrow.Author.Tests.{leb-true, ltb-true, lt-ltb, le-ltb, eqb-true, ne_eqb}
-use Rattle.rules.specs.Below.{all_below}
+use borrow.Author.Tests.{leb-true, ltb-true, lt-ltb, ne_eqb}
 use Rattle.rules.specs.Edition.{is_edition}
 use Rattle.rules.specs.Questions.{is_count}
 use Rattle.rules.specs.Sets.{within}
@@ -21,7 +20,7 @@ use Rattle.channel.specs.Channels.{channel_index, len_of, words_on, items_on, fi
 use Rattle.channel.specs.declared.Channels.{Channels}
 use Rattle.rules.proofs.Sums.{sum-at}
 use Rattle.run.proofs.BelowLaws.{all-at}
-use Rattle.run.specs.State.{zone_at, local_sound, lacked_empty, locals_sound, sets_within, channel_sound, channels_sound, cars_of, stocks, cars_on_channels, parts_sound, edition_of, count_of, terms_of}
+use Rattle.run.specs.State.{zone_at, local_sound, locals_sound, sets_within, channel_sound, channels_sound, cars_of, stocks, cars_on_channels, parts_sound, edition_of, count_of, terms_of}
 use Rattle.run.specs.declared.Head.{Head}
 
 -- The channel of two zones, by their indices.
@@ -109,16 +108,9 @@ module _ (h : Head) (l : Channels) (sound : parts_sound h l ≡ true) where
   sound-records = leb-true records 1000 (and_right (is_edition (edition_of h) && is_count count) (leb records 1000) two)
 
   sound-zone : (i : ℕ) → i < count → local_sound count records (zone_at h i) ≡ true
-  unfolding locals_sound lacked_empty
+  unfolding locals_sound
   sound-zone i b =
-      all-at count (λ i. local_sound count records (zone_at h i)) (and_left (all_below count (λ i. local_sound count records (zone_at h i))) (lacked_empty h) (and_right numbered (locals_sound h) three)) i b
-
-  pub sound-lacked : (i : ℕ) → i < 8 → count ≤ i → (zone_at h i).deps ≡ 0
-  unfolding locals_sound lacked_empty
-  sound-lacked i b c =
-      let q : ltb i count || eqb (zone_at h i).deps 0 ≡ true = all-at 8 (λ i. ltb i count || eqb (zone_at h i).deps 0)
-      (and_right (all_below count (λ i. local_sound count records (zone_at h i))) (lacked_empty h) (and_right numbered (locals_sound h) three)) i b in
-      eqb-true (zone_at h i).deps 0 (rw (le-ltb i count c) at q)
+      all-at count (λ i. local_sound count records (zone_at h i)) (and_right numbered (locals_sound h) three) i b
 
   pub sound-events : (i : ℕ) → i < count → (zone_at h i).events ≤ records
   unfolding local_sound

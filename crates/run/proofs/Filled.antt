@@ -13,14 +13,12 @@ use Rattle.rules.specs.Limits.{most_zones, most_cars}
 use Rattle.rules.specs.Questions.{is_count}
 use Rattle.rules.specs.Zone.{opened}
 use Rattle.run.specs.Claims.{filled_list, filled}
-use Rattle.run.specs.Opening.{opening_as, stock_at, opening_of, opened_at, first_run, opened_run, is_stock_list, unopened, open_call}
-use Rattle.run.specs.State.{head_as, zone_at}
+use Rattle.run.specs.Opening.{opening_as, stock_at, opening_of, first_run, opened_run, is_stock_list, unopened, open_call}
+use Rattle.run.specs.State.{head_as, no_local, zone_at}
 use Rattle.run.specs.declared.Answer.{Answer}
 use Rattle.run.specs.declared.Opening.{Opening}
 use Rattle.run.specs.declared.Terms.{Terms}
-use Rattle.run.proofs.BelowLaws.{none-at, sum_zeros, sum-list}
-use Rattle.run.proofs.Store.{zone-opened, opened-on}
-use Rattle.rules.proofs.QuestionLaws.{count-high}
+use Rattle.run.proofs.BelowLaws.{none-at, sum_zeros, sum-list, list_at}
 
 -- The list that is meant has a stock for each zone.
 pub list-filled : (o : Opening) → is_stock_list o.terms.count o.stocks ≡ true → length (filled o).stocks ≡ o.terms.count
@@ -84,7 +82,7 @@ opening-filled o = λ x. record { edition = o.terms.edition; stocks = stocks-fil
 pub opened-filled : (o : Opening) → opened_run (filled o) ≡ opened_run o
 unfolding opened_run
 opened-filled o =
-    ap (λ (stock : ℕ → ℕ). first_run (head_as (opening_as o.terms (list_below most_zones stock)) 0 (list_below most_zones (λ i. opened_at o.terms.count i (stock i)))))
+    ap (λ (stock : ℕ → ℕ). first_run (head_as (opening_as o.terms (list_below most_zones stock)) 0 (list_below most_zones (λ i. opened i (stock i)))))
     (stocks-filled o)
 
 pub open-filled : (o : Opening) → open_call (filled o) ≡ open_call o
@@ -102,11 +100,11 @@ module _ (terms : Terms) (known : is_edition terms.edition ≡ true) (sized : is
   unfolding open_call
   empty-opens = rw (known, sized) refl
 
-  pub empty-zone : (k : ℕ) → k < terms.count → zone_at (open_call (opening_as terms [])).run.head k ≡ opened k 0
+  pub empty-zone : (k : ℕ) → k < most_zones → zone_at (open_call (opening_as terms [])).run.head k ≡ opened k 0
   unfolding opened_run
   empty-zone k h =
       ap (λ (a : Answer). zone_at a.run.head k) empty-opens
-      ∙ zone-opened (opening_as terms []) k (omega (arith, count-high terms.count sized)) ∙ opened-on terms.count k 0 h
+      ∙ list_at most_zones (λ i. opened i (stock_at (opening_as terms []) i)) no_local k h
 
   -- Any other list that has not as many stocks as there are zones, one of zeros too, is refused with 3.
   pub other-refused : (stock : ℕ) (stocks : List ℕ) → length (stock ∷ stocks) ≢ terms.count

@@ -5,8 +5,6 @@ pub mod Outcome
 pub mod Answers
 pub mod Whole
 pub mod IndexLaws
-pub mod WordLaws
-pub mod Store
 pub mod Parts
 pub mod SetBounds
 pub mod Refine
@@ -15,7 +13,6 @@ pub mod Reach
 pub mod Conserve
 pub mod Gates
 pub mod Sound
-pub mod Layouts
 pub mod Fifo
 pub mod Journal
 pub mod Accepts

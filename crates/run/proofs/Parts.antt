@@ -6,7 +6,7 @@ use mathlib.Core.List.{[]}
 use Prim.Native.Nat.{ℕ, ◌+◌, ◌*◌, ◌/◌, ◌%◌, ◌^◌, ◌≤◌, ◌<◌}
 use native.Mathlib.Omega.{arith}
 use lib.Dec.{eqb, ltb}
-use borrow.Author.Tests.{ltb-true, ltb-false, eqb-false, eq-eqb, not-true, lt-ltb, le-leb}
+use borrow.Author.Tests.{ltb-true, eqb-false, not-true, lt-ltb, le-leb}
 use Rattle.rules.specs.Edition.{is_edition}
 use Rattle.rules.specs.Limits.{most_zones, most_cars, most_records, places}
 use Rattle.rules.specs.Questions.{is_count}
@@ -15,12 +15,12 @@ use Rattle.rules.specs.declared.Local.{Local}
 use Rattle.rules.proofs.Tests.{and_left, and_right}
 use Rattle.channel.specs.Channels.{channel_index, len_of, items_on, is_channel}
 use Rattle.rules.specs.Below.{sum_below}
-use Rattle.run.specs.State.{zone_at, local_sound, lacked_empty, locals_sound, sets_within, channel_sound, channels_sound, cars_of, stocks, cars_on_channels, parts_sound, is_sound, count_of, terms_of}
+use Rattle.run.specs.State.{zone_at, local_sound, locals_sound, sets_within, channel_sound, channels_sound, cars_of, stocks, cars_on_channels, parts_sound, is_sound, count_of, terms_of}
 use Rattle.run.specs.Model.{site_of}
 use Rattle.run.specs.declared.Run.{Run}
 use Rattle.rules.proofs.Sums.{sum_same}
 use Rattle.run.proofs.BelowLaws.{all_of}
-use Rattle.run.proofs.Facts.{channel-is, channel-at, channel-index-lt, sound-edition, sound-low, sound-high, sound-records, sound-events, sound-deps, sound-lacked, sound-length, sound-sets, sound-total}
+use Rattle.run.proofs.Facts.{channel-is, channel-at, channel-index-lt, sound-edition, sound-low, sound-high, sound-records, sound-events, sound-deps, sound-length, sound-sets, sound-total}
 
 -- Is there a channel from i to j on the site?
 abbrev pub on_site : ℕ → ℕ → ℕ → Bool
@@ -63,7 +63,6 @@ pub record SoundRun (r : Run) : Type 0 where
   pub records : r.head.records ≤ most_records
   pub events : (i : ℕ) → i < count_of r.head → ((site_of r).zone i).events ≤ r.head.records
   pub deps : (i : ℕ) → i < count_of r.head → ((site_of r).zone i).deps < 2 ^ count_of r.head
-  pub lacked : (i : ℕ) → i < 8 → count_of r.head ≤ i → (zone_at r.head i).deps ≡ 0
   pub lens : (i j : ℕ) → on_site (count_of r.head) i j ≡ true → len_of r.channels (channel_index i j) ≤ places
   pub sets : (i j : ℕ) → on_site (count_of r.head) i j ≡ true → sets_within (count_of r.head) ((site_of r).channel i j) ≡ true
   pub cars : stocks_s (count_of r.head) (site_of r) + cars_s (site_of r) ≤ most_cars
@@ -100,16 +99,9 @@ implies true q h = h refl
 implies false q h = refl
 
 zones-of : (r : Run) → ((i : ℕ) → i < count_of r.head → ((site_of r).zone i).events ≤ r.head.records)
-    → ((i : ℕ) → i < count_of r.head → ((site_of r).zone i).deps < 2 ^ count_of r.head) → ((i : ℕ) → i < 8 → count_of r.head ≤ i → (zone_at r.head i).deps ≡ 0) → locals_sound r.head ≡ true
-unfolding locals_sound local_sound lacked_empty
-zones-of r h k l =
-    rw (all_of (count_of r.head) (λ i. local_sound (count_of r.head) r.head.records (zone_at r.head i))
-    (λ i b. rw (← zone-on r i b, le-leb _ _ (h i b)) (lt-ltb _ _ (k i b))))
-    (all_of 8 (λ i. ltb i (count_of r.head) || eqb (zone_at r.head i).deps 0) (λ i b. lacked i b (ltb i (count_of r.head)) refl))
-  where
-    lacked : (i : ℕ) → i < 8 → (p : Bool) → ltb i (count_of r.head) ≡ p → p || eqb (zone_at r.head i).deps 0 ≡ true
-    lacked i b true e = refl
-    lacked i b false e = eq-eqb _ _ (l i b (ltb-false i (count_of r.head) e))
+    → ((i : ℕ) → i < count_of r.head → ((site_of r).zone i).deps < 2 ^ count_of r.head) → locals_sound r.head ≡ true
+unfolding locals_sound local_sound
+zones-of r h k = all_of (count_of r.head) _ (λ i b. rw (← zone-on r i b, le-leb _ _ (h i b)) (lt-ltb _ _ (k i b)))
 
 channels-of : (r : Run) → ((i j : ℕ) → on_site (count_of r.head) i j ≡ true → len_of r.channels (channel_index i j) ≤ places)
     → ((i j : ℕ) → on_site (count_of r.head) i j ≡ true → sets_within (count_of r.head) ((site_of r).channel i j) ≡ true)
@@ -143,7 +135,6 @@ parts r h =
       records = sound-records _ _ h;
       events = λ i b. rw (zone-on r i b) (sound-events _ _ h i b);
       deps = λ i b. rw (zone-on r i b) (sound-deps _ _ h i b);
-      lacked = λ i b c. sound-lacked _ _ h i b c;
       lens = λ i j e. let p = at-index (count_of r.head) i j m e in sound-length _ _ h (channel_index i j) p.0 p.1;
       sets = λ i j e. let p = at-index (count_of r.head) i j m e in rw (channel-on r i j e) (sound-sets _ _ h (channel_index i j) p.0 p.1);
       cars = subst (λ (x : ℕ). x ≤ most_cars) (ap₂ ◌+◌ (stocks-are r) (cars-are r)) (sound-total _ _ h);
@@ -157,7 +148,7 @@ sound r h =
       le-leb _ _ h.fewest,
       le-leb _ _ h.most,
       le-leb _ _ h.records,
-      zones-of r h.events h.deps h.lacked,
+      zones-of r h.events h.deps,
       channels-of r h.lens h.sets,
       stocks-are r,
       cars-are r,

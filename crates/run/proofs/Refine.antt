@@ -6,7 +6,8 @@ use mathlib.Core.List.{List, [], ◌∷◌, tail}
 use Prim.Native.Nat.{ℕ, zero, suc, ◌^◌, ◌≤◌, ◌<◌, ◌+◌}
 use native.Mathlib.Omega.{arith}
 use lib.Dec.{eqb, ltb}
-use lib.ListN.{length, get_or-eq_default}
+use lib.ListN.{length, get_or, set, get_or-eq_default}
+use lib.Seq.{get_or-set_same, get_or-set_other}
 use borrow.Author.Tests.{eqb-true, lt-ltb, ne_eqb, ltb-true, ltb-false}
 use Rattle.rules.specs.Change.{on, join}
 use Rattle.rules.specs.Limits.{places}
@@ -16,7 +17,7 @@ use Rattle.rules.specs.Zone.{has_checkpoint, is_permanent, opened, sent_under, r
 use Rattle.rules.specs.Site.{Item, message, request, Site, send_s, gate_s, pop_s, turn_s, start_s, take_s, step_s, open_s}
 use Rattle.rules.specs.Cut.{May}
 use Rattle.rules.specs.declared.Local.{Local}
-use Rattle.rules.proofs.Tests.{and_left, and_right, both_true}
+use Rattle.rules.proofs.Tests.{and_left, and_right, both_true, Same, same?}
 use Rattle.rules.proofs.SetLaws.{has-nobody}
 use Rattle.local.specs.Requesting.{requested_by, started_by}
 use Rattle.local.specs.declared.Requesting.{Requesting}
@@ -24,7 +25,7 @@ use Rattle.channel.specs.Words.{item_of, message_word}
 use Rattle.channel.specs.Channels.{Whole, channel_index, len_of, items_on, pushed, popped, first_of, free_below, all_free, requested_all}
 use Rattle.channel.specs.declared.Channels.{Channels}
 use Rattle.channel.proofs.View.{item-message, pop-whole, items-first, items-pushed, items-popped, len-pop-other, requested-items}
-use Rattle.run.specs.State.{zone_at, has_started, edition_of, count_of, put_back}
+use Rattle.run.specs.State.{no_local, locals, zone_at, has_started, edition_of, count_of, put_back}
 use Rattle.run.specs.Calls.{changed, item_received, answer, granted, record_of}
 use Rattle.run.specs.Model.{site_of}
 use Rattle.run.specs.Lists.{call_of, is_accepted}
@@ -34,11 +35,9 @@ use Rattle.run.specs.declared.Answer.{Answer}
 use Rattle.run.proofs.Filled.{short-list}
 use Rattle.run.proofs.Outcome.{is_open, Pair, Asks, passed, Fitting, start_by}
 use Rattle.run.proofs.Whole.{open-whole}
-use Rattle.run.proofs.BelowLaws.{any_none, none-at}
+use Rattle.run.proofs.BelowLaws.{any_none, list_at, none-at}
 use Rattle.run.proofs.Parts.{on_site, between, on-site, zone-on, channel-on, SoundRun, parts}
-use Rattle.rules.proofs.Editions.{sent-keeps}
-use Rattle.run.proofs.Store.{zone-changed, zone-opened, opened-on, deps-lt}
-use Rattle.run.proofs.SetBounds.{message-deps, has-lt, targets-deps, targets-other}
+use Rattle.run.proofs.SetBounds.{has-lt, targets-deps, targets-other}
 use Rattle.run.specs.declared.SiteCall.{SiteCall}
 use Rattle.run.specs.Opening.{no_channels, open_call, opened_run, opened_head, opening_of, stock_at}
 use Rattle.run.specs.declared.SiteCall.TheVariants.{Receive, Send, Start, Gate}
@@ -47,20 +46,29 @@ use Rattle.rules.specs.declared.Direction.TheVariants.{In, Out}
 use Rattle.run.specs.declared.Opening.{Opening}
 use Rattle.rules.proofs.SiteLaws.{site≡}
 
+-- A store to a list is a change at one place.
+set_on : {A : Type 0} (xs : List A) (a : ℕ) (g : A → A) (k : ℕ) (d : A) → a < length xs
+    → get_or (set xs a (g (get_or xs a d))) k d ≡ on (eqb k a) g (get_or xs k d)
+set_on xs a g k d h = go (same? k a)
+  where
+    go : Same k a → get_or (set xs a (g (get_or xs a d))) k d ≡ on (eqb k a) g (get_or xs k d)
+    go (inl e) = rw (e.1, e.0) (get_or-set_same xs a (g (get_or xs a d)) d h)
+    go (inr e) = rw e.1 (get_or-set_other xs a k (g (get_or xs a d)) d e.0)
+
 -- Zone a changes by g, and each channel of the site by its change.
 site-changed : (r : Run) (a : ℕ) (l : Channels) (word : ℕ) (g : Local → Local) (change : ℕ → ℕ → List Item → List Item)
-    → length r.head.bodies ≡ 8 → count_of r.head ≤ 8 → a < count_of r.head → (g (zone_at r.head a)).deps < 256
+    → length (locals r.head) ≡ 8 → count_of r.head ≤ 8 → a < count_of r.head
     → ((i j : ℕ) → on_site (count_of r.head) i j ≡ true → items_on l (channel_index i j) ≡ change i j (items_on r.channels (channel_index i j)))
     → ((i j : ℕ) → on_site (count_of r.head) i j ≡ false → change i j [] ≡ [])
     → site_of (changed r a (g (zone_at r.head a)) l word)
     ≡ record { edition = (site_of r).edition; zone = λ k. on (eqb k a) g ((site_of r).zone k); channel = λ i j. change i j ((site_of r).channel i j) }
-site-changed r a l word g change w m h d inner outer =
+site-changed r a l word g change w m h inner outer =
     site≡ _ _ refl (λ k. zone k (ltb k (count_of r.head)) refl) (λ i j. channel i j (on_site (count_of r.head) i j) refl)
   where
     zone : (k : ℕ) (p : Bool) → ltb k (count_of r.head) ≡ p
         → cond p (zone_at (put_back r.head a (g (zone_at r.head a)) (r.head.records + 1)) k) (opened k 0)
         ≡ on (eqb k a) g (cond p (zone_at r.head k) (opened k 0))
-    zone k true e = zone-changed r.head a g _ k w (omega arith) d
+    zone k true e = set_on (locals r.head) a g k no_local (omega arith)
     zone k false e = let b = ltb-false k (count_of r.head) e in rw (ne_eqb k a (λ q. omega arith))
 
     channel : (i j : ℕ) (p : Bool) → on_site (count_of r.head) i j ≡ p
@@ -127,8 +135,7 @@ module _ (r : Run) (w : WholeRun r) (s : SoundRun r) where
       ∙ ap (λ (z : Local). message cars (has_checkpoint z.checkpoint)) (sym (zone-on r a p.from)) in
       site-changed r a (pushed r.channels (channel_index a b) x) word (sent_under (edition_of r.head) cars)
       (λ i j. on (eqb i a && eqb j b) (join (message cars (has_checkpoint ((site_of r).zone a).checkpoint))))
-      w.bodies s.most p.from
-      (sent-keeps (edition_of r.head) cars (zone_at r.head a) (λ (z : Local). z.deps < 256) (λ h. h) (deps-lt r.head a))
+      w.zones s.most p.from
       (λ i j e.
       items-pushed r.channels a b w.channels ha hb x (lt-ltb _ 16 free) i j (between (count_of r.head) i j e).near
       ∙ ap (λ (x : Item). on (eqb i a && eqb j b) (join x) (items_on r.channels (channel_index i j))) item)
@@ -137,7 +144,7 @@ module _ (r : Run) (w : WholeRun r) (s : SoundRun r) where
   -- Cars through the gate of a.
   gated-site : (d : Direction) (a cars word : ℕ) → a < count_of r.head
       → site_of (changed r a (gated d cars (zone_at r.head a)) r.channels word) ≡ gate_s d a cars (site_of r)
-  gated-site d a cars word h = site-changed r a r.channels word (gated d cars) (λ i j xs. xs) w.bodies s.most h (deps-lt r.head a) (λ i j e. refl) (λ i j e. refl)
+  gated-site d a cars word h = site-changed r a r.channels word (gated d cars) (λ i j xs. xs) w.zones s.most h (λ i j e. refl) (λ i j e. refl)
 
   -- Requests that b sends, over channels l: where there is no target, what they would carry does not matter.
   requests-items : (l : Channels) (b to set i j : ℕ) → Whole l → b < count_of r.head → all_free l b to ≡ true → j < 8
@@ -164,13 +171,13 @@ module _ (r : Run) (w : WholeRun r) (s : SoundRun r) where
       rw (zone-on r a h)
       (site-changed r a (requested_all r.channels a to (cond (eqb to 0) 0 (carried nobody z))) word started
       (λ i j. on (eqb i a && has to j) (join (request (carried nobody z))))
-      w.bodies s.most h (deps-lt r.head a)
+      w.zones s.most h
       (λ i j e. requests-items r.channels a to (carried nobody z) i j w.channels h f (between (count_of r.head) i j e).near)
       (λ i j e. rw (off-targets (count_of r.head) a nobody i j z s.most h d e)))
 
   -- A receipt by b from a: the first item leaves, b changes by g and sends requests.
   module _ (a b : ℕ) (p : Pair (count_of r.head) a b) (some : 0 < len_of r.channels (channel_index a b)) (word : ℕ) where
-    popped-site : (g : Local → Local) (to set : ℕ) → (g (zone_at r.head b)).deps < 256 → all_free r.channels b to ≡ true
+    popped-site : (g : Local → Local) (to set : ℕ) → all_free r.channels b to ≡ true
         → ((i j : ℕ) → on_site (count_of r.head) i j ≡ false → eqb i b && has to j ≡ false)
         → site_of (changed r b (g (zone_at r.head b))
         (requested_all (popped r.channels (channel_index a b)) b to (cond (eqb to 0) 0 set)) word)
@@ -179,14 +186,14 @@ module _ (r : Run) (w : WholeRun r) (s : SoundRun r) where
           zone = λ k. on (eqb k b) g ((site_of r).zone k);
           channel = λ i j. on (eqb i b && has to j) (join (request set)) (on (eqb i a && eqb j b) tail ((site_of r).channel i j));
         }
-    popped-site g to set d f off =
+    popped-site g to set f off =
         let l = popped r.channels (channel_index a b) in
         let ha : a < 8 = omega (arith, p.from, s.most) in
         let hb : b < 8 = omega (arith, p.to, s.most) in
         let few = s.lens a b (on-site (count_of r.head) a b s.most p.from p.to p.apart) in
         site-changed r b (requested_all l b to (cond (eqb to 0) 0 set)) word g
         (λ i j xs. on (eqb i b && has to j) (join (request set)) (on (eqb i a && eqb j b) tail xs))
-        w.bodies s.most p.to d
+        w.zones s.most p.to
         (λ i j e. let near = (between (count_of r.head) i j e).near in
         requests-items l b to set i j (pop-whole r.channels (channel_index a b) w.channels) p.to
         (popped-free r.channels a b to p.apart hb f) near
@@ -194,15 +201,15 @@ module _ (r : Run) (w : WholeRun r) (s : SoundRun r) where
         (λ i j e. rw (off i j e, off-pair (count_of r.head) a b i j s.most p e))
 
     -- Where there is no target, only the first item leaves.
-    quiet-site : (g : Local → Local) → (g (zone_at r.head b)).deps < 256 → all_free r.channels b nobody ≡ true
+    quiet-site : (g : Local → Local) → all_free r.channels b nobody ≡ true
         → site_of (changed r b (g (zone_at r.head b)) (requested_all (popped r.channels (channel_index a b)) b nobody nobody) word)
         ≡ record {
           edition = (site_of r).edition;
           zone = λ k. on (eqb k b) g ((site_of r).zone k);
           channel = λ i j. on (eqb i a && eqb j b) tail ((site_of r).channel i j);
         }
-    quiet-site g d f =
-        popped-site g nobody nobody d f (λ i j e. rw (has-nobody j, and-false (eqb i b)))
+    quiet-site g f =
+        popped-site g nobody nobody f (λ i j e. rw (has-nobody j, and-false (eqb i b)))
         ∙ site≡ _ _ refl (λ k. refl) (λ i j. rw (has-nobody j, and-false (eqb i b)))
 
     -- The site after b has taken an item, with what that makes of it.
@@ -216,19 +223,17 @@ module _ (r : Run) (w : WholeRun r) (s : SoundRun r) where
         → received_as (requested_by b set (zone_at r.head b)) ≡ on (not q) (turn_s b set) (pop_s a b (site_of r))
     unfolding requested_by
     request-site set true e f =
-        rw e (quiet-site (λ z. z) (deps-lt r.head b) (rw e at f) ∙ site≡ _ _ refl (λ k. on_same (eqb k b) ((site_of r).zone k)) (λ i j. refl))
+        rw e (quiet-site (λ z. z) (rw e at f) ∙ site≡ _ _ refl (λ k. on_same (eqb k b) ((site_of r).zone k)) (λ i j. refl))
     request-site set false e f =
         let z = zone_at r.head b in
         let d : z.deps < 2 ^ count_of r.head = subst (λ (z : Local). z.deps < 2 ^ count_of r.head) (zone-on r b p.to) (s.deps b p.to) in
         rw (e, zone-on r b p.to)
-        (popped-site requested (targets b set z) (carried set z) (deps-lt r.head b) (rw e at f)
+        (popped-site requested (targets b set z) (carried set z) (rw e at f)
         (λ i j e. off-targets (count_of r.head) b set i j z s.most p.to d e))
 
     received-site : (x : Item) (rest : List Item) → all_free r.channels b (item_received (edition_of r.head) a b x (zone_at r.head b)).to ≡ true
         → received_as (item_received (edition_of r.head) a b x (zone_at r.head b)) ≡ take_s a b (x ∷ rest) (site_of r)
-    received-site (message cars flag) rest f =
-        quiet-site (received_under (edition_of r.head) a cars flag)
-        (message-deps (edition_of r.head) a cars flag (zone_at r.head b) (omega (arith, p.from, s.most)) (deps-lt r.head b)) f
+    received-site (message cars flag) rest f = quiet-site (received_under (edition_of r.head) a cars flag) f
     received-site (request set) rest f =
         request-site set (is_permanent ((site_of r).zone b).checkpoint)
         (ap (λ (z : Local). is_permanent z.checkpoint) (sym (zone-on r b p.to))) f
@@ -285,7 +290,7 @@ opened-site o f = site≡ _ _ refl (λ k. zone k (ltb k o.terms.count) refl) (λ
         → cond p (zone_at (opened_head o) k) (opened k 0) ≡ opened k (stock_at o k)
     zone k true e =
         let b = ltb-true k o.terms.count e in
-        zone-opened o k (omega (arith, f.most)) ∙ opened-on o.terms.count k (stock_at o k) b
+        list_at 8 (λ i. opened i (stock_at o i)) no_local k (omega (arith, f.most))
     zone k false e =
         let b = ltb-false k o.terms.count e in
         let h = short-list o.terms.count o.stocks f.listed in

@@ -7,14 +7,11 @@ use native.Mathlib.Omega.{arith}
 use native.Mathlib.Nat.{div-eq_of_lt}
 use lib.Dec.{eqb, leb}
 use lib.Bits.{or_lt, xor_lt, and_le_l}
-use lib.Pow.{pow_mono, pow-lt}
+use lib.Pow.{pow_mono}
 use borrow.Author.Tests.{leb-true, leb-false, not-true, eqb-false}
 use Rattle.rules.specs.Sets.{has, only, union}
-use Rattle.rules.specs.Zone.{deps_after, received_under, targets, carried}
-use Rattle.rules.specs.declared.Checkpoint.{Checkpoint}
-use Rattle.rules.specs.declared.Checkpoint.TheVariants.{None, Mutable, Permanent}
+use Rattle.rules.specs.Zone.{targets, carried}
 use Rattle.rules.specs.declared.Local.{Local}
-use Rattle.rules.proofs.Editions.{received-keeps}
 use Rattle.rules.proofs.SetLaws.{has-union, has-difference, has-only}
 use Rattle.rules.proofs.Tests.{and_left, and_right, or-off-right}
 
@@ -45,15 +42,3 @@ targets-lt n me set z h =
 
 pub carried-lt : (n set : ℕ) (z : Local) → z.deps < 2 ^ n → set < 2 ^ n → carried set z < 2 ^ n
 carried-lt n set z h k = or_lt n z.deps set h k
-
--- A receipt leaves a set of zones of the site.
-pub received-deps : (n from deps : ℕ) (k : Checkpoint) (flag : Bool) → from < n → deps < 2 ^ n → deps_after k deps from flag < 2 ^ n
-received-deps n from deps None false h d = or_lt n deps (only from) d (pow-lt h)
-received-deps n from deps None true h d = d
-received-deps n from deps (Mutable s) flag h d = d
-received-deps n from deps (Permanent s) flag h d = d
-
--- The set of a zone after a call is a byte again.
-pub message-deps : (edition from cars : ℕ) (flag : Bool) (z : Local) → from < 8 → z.deps < 256 → (received_under edition from cars flag z).deps < 256
-message-deps edition from cars flag z h d =
-    received-keeps edition cars z (λ (z : Local). z.deps < 256) from flag (received-deps 8 from z.deps z.checkpoint flag h) d

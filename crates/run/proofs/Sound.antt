@@ -1,41 +1,42 @@
 -- A sound run stays sound by any list of calls, refused ones included, and every opening hands back a sound run.
 use mathlib.Core.Path.{◌≡◌, refl, sym, ◌∙◌, ap, subst}
-use mathlib.Core.Bool.{Bool, true, false, ◌&&◌, ◌||◌, not, cond}
+use mathlib.Core.Bool.{Bool, true, false, ◌&&◌, ◌||◌, not}
 use mathlib.Core.Logic.{◌⊎◌, inl, inr}
 use mathlib.Core.List.{List, [], ◌∷◌, tail}
 use Prim.Native.Nat.{ℕ, zero, suc, ◌+◌, ◌-◌, ◌^◌, ◌≤◌, ◌<◌}
 use native.Mathlib.Omega.{arith}
 use native.Mathlib.Nat.{not-suc-le-zero}
 use lib.Dec.{eqb, ltb}
+use lib.Bits.{or_lt}
 use lib.Pow.{pow_pos, pow-lt}
-use borrow.Author.Tests.{eqb-true, ltb-true, lt-ltb, ne_eqb}
+use borrow.Author.Tests.{eqb-true, ltb-true, lt-ltb}
 use Rattle.rules.specs.Change.{on, join}
 use Rattle.rules.specs.Limits.{most_cars, places}
 use Rattle.rules.specs.Questions.{index}
-use Rattle.rules.specs.Sets.{has, nobody}
-use Rattle.rules.specs.Zone.{is_permanent, sent_under, received_under, gated, started, requested, targets, carried}
+use Rattle.rules.specs.Sets.{has, nobody, only}
+use Rattle.rules.specs.Zone.{is_permanent, sent_under, received_under, gated, started, requested, deps_after, targets, carried}
 use Rattle.rules.specs.Site.{Item, message, request, Site, Call, send, receive, start, gate, entering, pop_s, request_all_s, turn_s, step_s, take_s}
 use Rattle.rules.specs.declared.Local.{Local}
+use Rattle.rules.specs.declared.Checkpoint.{Checkpoint}
+use Rattle.rules.specs.declared.Checkpoint.TheVariants.{None, Mutable, Permanent}
 use Rattle.rules.proofs.Editions.{sent-keeps, received-keeps}
 use Rattle.rules.proofs.Guarded.{on-keeps}
 use Rattle.rules.proofs.Tests.{and_left, and_right, both_true}
-use Rattle.local.specs.Requesting.{requesting_as, requested_by, started_by}
-use Rattle.channel.specs.Words.{item_of, set_in}
-use Rattle.channel.specs.Channels.{Whole, channel_index, first_of, len_of, is_free, pushed, popped, free_below, all_free, requested_all}
+use Rattle.channel.specs.Words.{set_in}
+use Rattle.channel.specs.Channels.{Whole, channel_index, len_of, is_free, pushed, popped, free_below, all_free, requested_all}
 use Rattle.channel.specs.declared.Channels.{Channels}
 use Rattle.channel.proofs.View.{pop-whole, lens-pushed, lens-popped, requested-lens}
-use Rattle.run.specs.State.{sets_within, all_cars, is_sound, zone_at, edition_of, terms_of, count_of}
-use Rattle.run.specs.Calls.{actor, answer, channels_after, granted, actor_in, item_received, zone_after}
+use Rattle.run.specs.State.{sets_within, all_cars, is_sound, terms_of, count_of}
+use Rattle.run.specs.Calls.{answer, channels_after, granted, actor_in}
 use Rattle.run.specs.Model.{site_of}
 use Rattle.run.specs.Lists.{call_of, after}
 use Rattle.run.specs.Claims.{WholeRun, Typed, AllTyped}
 use Rattle.run.specs.declared.Run.{Run}
 use Rattle.run.specs.declared.Answer.{Answer}
-use Rattle.run.proofs.Outcome.{Sited, sited, acts, Asks, Passed, Refused, outcome, Opened, NotOpened, open-outcome, Fitting, fallback-fits}
+use Rattle.run.proofs.Outcome.{Sited, sited, Asks, Passed, Refused, outcome, Opened, NotOpened, open-outcome, Fitting, fallback-fits}
 use Rattle.run.proofs.BelowLaws.{split, none-at}
 use Rattle.run.proofs.Parts.{on_site, between, on-site, SoundRun, parts, sound}
-use Rattle.run.proofs.SetBounds.{carried-lt, received-deps, message-deps}
-use Rattle.run.proofs.Store.{deps-lt, zone-put, zone-opened, opened-lacked}
+use Rattle.run.proofs.SetBounds.{carried-lt}
 use Rattle.run.proofs.Whole.{call-whole, open-whole}
 use Rattle.run.proofs.Refine.{popped-free, refine, opened-site}
 use Rattle.run.proofs.Conserve.{cars-at, granted-conserves, opened-cars}
@@ -43,7 +44,7 @@ use Rattle.run.specs.declared.SiteCall.{SiteCall}
 use Rattle.run.specs.declared.SiteCall.TheVariants.{Receive, Send, Start, Gate}
 use Rattle.rules.specs.declared.Direction.TheVariants.{In, Out}
 use Rattle.run.specs.declared.Opening.{Opening}
-use Rattle.run.specs.Opening.{open_call, opened_run, fallback, stock_at}
+use Rattle.run.specs.Opening.{open_call, opened_run, fallback}
 
 -- The rules: a call adds at most one own event to a zone.
 events-step : (c : Call) (s : Site) (k : ℕ) → ((step_s c s).zone k).events ≤ (s.zone k).events + 1
@@ -74,6 +75,12 @@ events-step (gate d a cars) s k = go (eqb k a)
     go false = omega arith
 
 -- Dependency sets go on naming zones of the site only.
+received-deps : (n from deps : ℕ) (k : Checkpoint) (flag : Bool) → from < n → deps < 2 ^ n → deps_after k deps from flag < 2 ^ n
+received-deps n from deps None false h d = or_lt n deps (only from) d (pow-lt h)
+received-deps n from deps None true h d = d
+received-deps n from deps (Mutable s) flag h d = d
+received-deps n from deps (Permanent s) flag h d = d
+
 deps-step : (n : ℕ) (c : Call) (s : Site) (k : ℕ) → Sited n c → (s.zone k).deps < 2 ^ n → ((step_s c s).zone k).deps < 2 ^ n
 deps-step n (send a b cars) s k p h =
     on-keeps (λ (z : Local). z.deps < 2 ^ n) (eqb k a) (sent_under s.edition cars) (s.zone k)
@@ -211,26 +218,6 @@ few-cars (Start zone) r p h = omega arith
 few-cars (Gate In zone cars) r p h = p.asks.1
 few-cars (Gate Out zone cars) r p h = omega arith
 
--- The set of the zone that acts is a byte again.
-item-deps : (edition a b : ℕ) (x : Item) (z : Local) → a < 8 → z.deps < 256 → (item_received edition a b x z).local.deps < 256
-unfolding requested_by
-item-deps edition a b (message cars flag) z h d = message-deps edition a cars flag z h d
-item-deps edition a b (request set) z h d = go (is_permanent z.checkpoint)
-  where
-    go : (p : Bool) → (cond p (requesting_as z nobody nobody) (requesting_as (requested z) (targets b set z) (carried set z))).local.deps < 256
-    go true = d
-    go false = d
-
-pub after-deps : (c : SiteCall) (r : Run) → SoundRun r → Asks c r → (zone_after c (terms_of r.head) (actor_in c r) r.channels).deps < 256
-unfolding started_by
-after-deps (Send from to cars) r s a =
-    let h = r.head in
-    sent-keeps (edition_of h) cars (zone_at h (index from)) (λ (z : Local). z.deps < 256) (λ h. h) (deps-lt h (index from))
-after-deps (Receive from to) r s (p, c, f) =
-    item-deps (edition_of r.head) (index from) (index to) (item_of (first_of r.channels (channel_index (index from) (index to)))) (zone_at r.head (index to)) (omega (arith, p.from, s.most)) (deps-lt r.head (index to))
-after-deps (Start zone) r s a = deps-lt r.head (index zone)
-after-deps (Gate direction zone cars) r s a = deps-lt r.head (index zone)
-
 -- An accepted call hands back a sound run.
 granted-sound : (c : SiteCall) (r : Run) → WholeRun r → Typed c → Passed c r → SoundRun (granted c r).run
 granted-sound c r w t p =
@@ -248,10 +235,6 @@ granted-sound c r w t p =
           (omega (arith, events-step (call_of c) (site_of r) i, s.events i h));
       deps = λ i h. subst (λ (x : Site). (x.zone i).deps < 2 ^ count_of r.head) (sym q)
           (deps-step (count_of r.head) (call_of c) (site_of r) i (sited c r p) (s.deps i h));
-      lacked = λ i b e.
-          ap (λ (z : Local). z.deps) (zone-put r.head (actor c) (zone_after c (terms_of r.head) (actor_in c r) r.channels) (r.head.records + 1) i w.bodies
-          (omega (arith, acts c r p, s.most)) (after-deps c r s p.asks))
-          ∙ rw (ne_eqb i (actor c) (λ x. omega (arith, acts c r p))) (s.lacked i b e);
       lens = lens-step c r w s p.asks;
       sets = λ i j o. subst (λ (x : Site). sets_within (count_of r.head) (x.channel i j) ≡ true) (sym q)
           (sets-step (count_of r.head) (call_of c) (site_of r) s.most (sited c r p) s.deps s.sets i j o);
@@ -282,7 +265,6 @@ opened-facts o f =
       records = omega arith;
       events = λ i b. subst (λ (x : Site). (x.zone i).events ≤ 0) (sym q) (omega arith);
       deps = λ i b. subst (λ (x : Site). (x.zone i).deps < 2 ^ o.terms.count) (sym q) (pow-lt b);
-      lacked = λ i b e. ap (λ (z : Local). z.deps) (zone-opened o i b) ∙ opened-lacked o.terms.count i (stock_at o i) e;
       lens = λ i j e. subst (λ (n : ℕ). n ≤ places) (sym (none-at 64 (channel_index i j))) (omega arith);
       sets = λ i j e. subst (λ (x : Site). sets_within o.terms.count (x.channel i j) ≡ true) (sym q) refl;
       cars = subst (λ (n : ℕ). n ≤ most_cars) (sym (opened-cars o f) ∙ cars-at r) f.cars;

@@ -10,7 +10,7 @@ use Rattle.channel.proofs.View.{push-whole, pop-whole, requested-whole}
 use Rattle.run.specs.Calls.{actor, answer, channels_after, granted, zone_after, actor_in}
 use Rattle.run.specs.Lists.{after}
 use Rattle.run.specs.Claims.{WholeRun}
-use Rattle.run.specs.State.{body_of, terms_of}
+use Rattle.run.specs.State.{locals, terms_of}
 use Rattle.run.specs.declared.Run.{Run}
 use Rattle.run.specs.declared.Answer.{Answer}
 use Rattle.run.proofs.Outcome.{Passed, Refused, outcome, Opened, NotOpened, open-outcome}
@@ -28,7 +28,7 @@ channels-whole (Gate d zone cars) r w = w
 
 granted-whole : (c : SiteCall) (r : Run) → WholeRun r → WholeRun (granted c r).run
 granted-whole c r w = record {
-  bodies = length-set r.head.bodies (actor c) (body_of (zone_after c (terms_of r.head) (actor_in c r) r.channels)) ∙ w.bodies;
+  zones = length-set (locals r.head) (actor c) (zone_after c (terms_of r.head) (actor_in c r) r.channels) ∙ w.zones;
   opening = w.opening;
   channels = channels-whole c r w.channels;
   journal = length-set r.journal r.head.records _ ∙ w.journal;
@@ -48,7 +48,7 @@ after-whole (c ∷ cs) r w = after-whole cs (answer c r).run (call-whole c r w)
 pub opened-whole : (o : Opening) → WholeRun (opened_run o)
 unfolding opened_run
 opened-whole o = record {
-  bodies = refl;
+  zones = refl;
   opening = refl;
   channels = (length-replicate {A = ℕ} 1024 0, length-replicate {A = ℕ} 64 0);
   journal = length-replicate {A = ℕ} 1000 0;

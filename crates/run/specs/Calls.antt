@@ -114,78 +114,34 @@ record_of (Gate direction zone cars) = gate_record direction (index zone) cars
 abbrev pub actor_in : SiteCall → Run → Local
 actor_in c r = zone_at r.head (actor c)
 
--- How a run is stored, as far as a call knows of it: what it looks at, and how the zone that acted, the channels and the record are put into
--- the run. The calls are written once, over any such layout.
-pub record Layout (R : Type 0) : Type 0 where
-  pub terms : R → Terms
-  pub records : R → ℕ
-  pub zone : R → ℕ → Local
-  pub channels : R → Channels
-  pub sound : R → Bool
-  pub started : R → Bool
-  pub held : R → ℕ
-  pub changed : R → (at : ℕ) → Local → Channels → (word : ℕ) → R
+-- "Hand-over: 1, 5, 6, 7, 8. Receipt: 1, 5, 6, 9, 10. Start: 1, 5, 6, 11, 10." "A gate call, one for each direction, goes through 1, then
+-- 15 .., 5, 6, then 7 for an exit", and 21 for an entry.
+abbrev pub questions : SiteCall → Run → List Question
+questions c r =
+    question 1 (is_sound r)
+    ∷ edition_questions c (edition_of r.head)
+    ++ (question 5 (is_named (count_of r.head) c)
+    ∷ question 6 (has_room r)
+    ∷ own_questions c (terms_of r.head) (actor_in c r) r.channels (has_started r.head) (all_cars r))
 
-module _ {R : Type 0} (s : Layout R) (c : SiteCall) (r : R) where
-  abbrev actor_by : Local
-  actor_by = s.zone r (actor c)
+-- "The refusal is the number"; a refused call hands back the run unchanged.
+abbrev pub refused : Run → ℕ → Answer
+refused r n = record { refusal = n; remaining = 0; run = r }
 
-  -- "Hand-over: 1, 5, 6, 7, 8. Receipt: 1, 5, 6, 9, 10. Start: 1, 5, 6, 11, 10." "A gate call, one for each direction, goes through 1, then
-  -- 15 .., 5, 6, then 7 for an exit", and 21 for an entry.
-  abbrev pub questions_by : List Question
-  questions_by =
-      question 1 (s.sound r)
-      ∷ edition_questions c (s.terms r).edition
-      ++ (question 5 (is_named (s.terms r).count c)
-      ∷ question 6 (ltb (s.records r) most_records)
-      ∷ own_questions c (s.terms r) actor_by (s.channels r) (s.started r) (s.held r))
-
-  -- The run after an accepted call: a zone and the channels have changed, and "each accepted call adds its record".
-  abbrev pub run_by : R
-  run_by =
-      let t = s.terms r in
-      s.changed r (actor c) (zone_after c t actor_by (s.channels r)) (channels_after c t actor_by (s.channels r)) (record_of c)
-
-  -- The answer, of a refusal, the number that remains, and a run. "The refusal is the number"; a refused call hands back the run unchanged.
-  -- How many remain "is counted after the receipt": in the run that the call hands back.
-  module _ {A : Type 0} (made : (refusal remaining : ℕ) → R → A) where
-    abbrev pub granted_by : A
-    granted_by = made 0 (remaining_on c (s.channels run_by)) run_by
-
-    abbrev pub answer_by : A
-    answer_by = ask questions_by (λ n. made n 0 r) granted_by
-
--- The layout of a run.
+-- A zone and the channels have changed, and "each accepted call adds its record".
 abbrev pub changed : Run → ℕ → Local → Channels → ℕ → Run
 changed r at z l word = run_as (put_back r.head at z (r.head.records + 1)) l (set r.journal r.head.records word)
 
-abbrev pub packed : Layout Run
-packed = record {
-  terms = λ r. terms_of r.head;
-  records = λ r. r.head.records;
-  zone = λ r. zone_at r.head;
-  channels = λ r. r.channels;
-  sound = is_sound;
-  started = λ r. has_started r.head;
-  held = all_cars;
-  changed = changed;
-}
-
-abbrev pub answer_as : (refusal remaining : ℕ) → Run → Answer
-answer_as refusal remaining r = record { refusal = refusal; remaining = remaining; run = r }
-
--- The questions of a call on a run, what it answers where one is answered no, and where all are answered yes; its answer.
-abbrev pub questions : SiteCall → Run → List Question
-questions c r = questions_by packed c r
-
-abbrev pub refused : Run → ℕ → Answer
-refused r n = answer_as n 0 r
-
+-- The run after an accepted call.
 abbrev pub run_after : SiteCall → Run → Run
-run_after c r = run_by packed c r
+run_after c r =
+    let t = terms_of r.head in
+    changed r (actor c) (zone_after c t (actor_in c r) r.channels) (channels_after c t (actor_in c r) r.channels) (record_of c)
 
+-- How many remain "is counted after the receipt": in the run that the call hands back.
 abbrev pub granted : SiteCall → Run → Answer
-granted c r = granted_by packed c r answer_as
+granted c r = record { refusal = 0; remaining = remaining_on c (run_after c r).channels; run = run_after c r }
 
+-- The answer of a call.
 unfoldable pub answer : SiteCall → Run → Answer
-answer c r = answer_by packed c r answer_as
+answer c r = ask (questions c r) (refused r) (granted c r)

@@ -8,6 +8,7 @@ use Rattle.rules.specs.Site.{entering, leaving}
 use Rattle.rules.specs.declared.Direction.{Direction}
 use Rattle.rules.specs.declared.Direction.TheVariants.{In, Out}
 use Rattle.channel.specs.Channels.{Whole}
+use Rattle.run.specs.State.{locals}
 use Rattle.run.specs.Calls.{is_pair, record_of, own_gate_questions, answer}
 use Rattle.run.specs.Opening.{opening_as}
 use Rattle.run.specs.Lists.{is_accepted, call_of, after}
@@ -18,7 +19,7 @@ use Rattle.run.specs.declared.SiteCall.TheVariants.{Send, Receive, Start, Gate}
 
 -- The lists of a run have the lengths of its arrays: true of every value of the type.
 pub record WholeRun (r : Run) : Type 0 where
-  pub bodies : length r.head.bodies ≡ most_zones
+  pub zones : length (locals r.head) ≡ most_zones
   pub opening : length r.head.opening.stocks ≡ most_zones
   pub channels : Whole r.channels
   pub journal : length r.journal ≡ most_records

@@ -1,9 +1,7 @@
 pub mod Layout
-pub mod Word
 pub mod State
 pub mod Opening
 pub mod Calls
-pub mod Separate
 pub mod Model
 pub mod Lists
 pub mod Claims

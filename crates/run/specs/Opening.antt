@@ -1,16 +1,15 @@
 -- Opening a site: what it is opened with is one value, from the caller's terms and stocks down to the rules' opening.
-use Rattle.std.specs.Prelude.{Bool, true, cond, List, [], ◌∷◌, ℕ, leb, ltb, eqb, length, get_or, replicate}
+use Rattle.std.specs.Prelude.{Bool, true, List, [], ◌∷◌, ℕ, leb, eqb, length, get_or, replicate}
 use Rattle.rules.specs.Below.{list_below, sum}
 use Rattle.rules.specs.Edition.{first_edition, is_edition}
 use Rattle.rules.specs.Limits.{fewest_zones, most_zones, most_cars, most_records}
 use Rattle.rules.specs.Opening as rules
 use Rattle.rules.specs.Questions.{Question, question, ask, is_count}
-use Rattle.rules.specs.Sets.{nobody}
 use Rattle.rules.specs.Zone.{opened}
 use Rattle.rules.specs.declared.Local.{Local}
 use Rattle.channel.specs.Channels.{most_channels, most_words, channels_as}
 use Rattle.channel.specs.declared.Channels.{Channels}
-use Rattle.run.specs.State.{body_of, local_as, head_as, run_as}
+use Rattle.run.specs.State.{head_as, run_as}
 use Rattle.run.specs.declared.Answer.{Answer}
 use Rattle.run.specs.declared.Head.{Head}
 use Rattle.run.specs.declared.Opening.{Opening}
@@ -32,13 +31,9 @@ stock_at o i = get_or o.stocks i 0
 abbrev pub opening_of : Opening → rules.Opening
 opening_of o = record { edition = o.terms.edition; stocks = stock_at o }
 
--- The zone at an index when a site of so many zones opens: "zones that the site lacks have" a dependency set of nobody.
-unfoldable pub opened_at : (count i stock : ℕ) → Local
-opened_at count i stock = cond (ltb i count) (opened i stock) (local_as (body_of (opened i stock)) nobody)
-
--- The head of an opening.
+-- The head of an opening: zones that the site does not have are kept as zones opened with stock 0.
 abbrev pub opened_zones : Opening → List Local
-opened_zones o = list_below most_zones (λ i. opened_at o.terms.count i (stock_at o i))
+opened_zones o = list_below most_zones (λ i. opened i (stock_at o i))
 
 abbrev pub opened_head : Opening → Head
 opened_head o = head_as (opening_as o.terms (list_below most_zones (stock_at o))) 0 (opened_zones o)
@@ -71,11 +66,8 @@ open_questions o =
 abbrev pub fallback : Opening
 fallback = opening_as (terms_as first_edition fewest_zones) (0 ∷ 0 ∷ [])
 
-abbrev pub open_by : {R A : Type 0} → (Opening → R) → ((refusal remaining : ℕ) → R → A) → Opening → A
-open_by first made o = ask (open_questions o) (λ n. made n 0 (first fallback)) (made 0 0 (first o))
-
 abbrev pub unopened : ℕ → Answer
 unopened n = record { refusal = n; remaining = 0; run = opened_run fallback }
 
 unfoldable pub open_call : Opening → Answer
-open_call o = open_by opened_run (λ refusal remaining r. record { refusal = refusal; remaining = remaining; run = r }) o
+open_call o = ask (open_questions o) unopened (record { refusal = 0; remaining = 0; run = opened_run o })

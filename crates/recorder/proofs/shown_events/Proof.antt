@@ -68,7 +68,7 @@ loop-again c =
     )
 
 returns : tie.Need-returns invariant-loop decreases-loop
-unfolding shown_events zone_at
+unfolding shown_events
 returns c =
     let b = c.before in
     let l = b.loop in

@@ -126,7 +126,7 @@ same_length c =
     wrote-length w (omega (arith, w.number, zones-size s.args.head b.loop.i, s.pre.1, b.loop.invariant.0, b.loop.invariant.1))
 
 returns : tie.Need-returns invariant-loop decreases-loop
-unfolding zones_words zone_at
+unfolding zones_words
 returns c =
     let b = c.before in
     let l = b.loop in

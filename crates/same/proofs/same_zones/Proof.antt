@@ -8,8 +8,7 @@ use lib.ListN.{get_or}
 use Rattle.rules.specs.Below.{all_below}
 use Rattle.rules.specs.declared.Local.{Local}
 use Rattle.run.specs.State.{no_local, zone_at}
-use Rattle.run.proofs.BelowLaws.{all_same, all-to, all-next}
-use Rattle.run.proofs.Store.{zone-listed}
+use Rattle.run.proofs.BelowLaws.{all-to, all-next}
 use Rattle.journal.specs.Writing.{same_local, same_zones}
 use Rattle.same.proofs.same_zones.Statement.{statement}
 use Rattle.same.proofs.same_zones.Tie as tie
@@ -68,12 +67,10 @@ returns c =
     let b = c.before in
     let z = b.before in
     let a = (start z).args in
-    let most = (start z).requires in
     let e : b.loop.i ≡ a.count = omega arith in
     b.loop.invariant.1
     ∙ ap₂ (λ (xs ys : List Local). all_below b.loop.i (λ k. same_local (get_or xs k no_local) (get_or ys k no_local)))
     z.before.locals.ensures z.locals2.ensures
-    ∙ all_same b.loop.i _ _ (λ k l. ap₂ same_local (zone-listed a.a k (omega arith)) (zone-listed a.b k (omega arith)))
     ∙ all-to (λ k. same_local (zone_at a.a k) (zone_at a.b k)) e
 
 pub same-zones-spec : {M : Type 1} → statement M

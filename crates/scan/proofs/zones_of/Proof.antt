@@ -1,6 +1,5 @@
 -- `scan::zones_of` meets its contract, by what the zones before the next one add up to.
-use mathlib.Core.Path.{◌≡◌, refl, ◌∙◌, ap, ap₂}
-use mathlib.Core.Bool.{◌&&◌}
+use mathlib.Core.Path.{◌≡◌, refl, ◌∙◌, ap}
 use mathlib.Core.List.{List}
 use Prim.Native.Nat.{◌-◌, ◌*◌, ◌≤◌}
 use native.Mathlib.Omega.{arith}
@@ -8,21 +7,19 @@ use lib.ListN.{get_or}
 use borrow.Author.Rules.{rules}
 use Rattle.rules.specs.Below.{all_below, sum_below}
 use Rattle.rules.specs.declared.Local.{Local}
-use Rattle.run.specs.State.{count_of, no_local, zone_at, local_sound, lacked_empty, locals_sound, stocks}
-use Rattle.run.proofs.BelowLaws.{all_same, all-to, all-next, sum_to, sum-next}
-use Rattle.run.proofs.Store.{zone-listed}
-use Rattle.rules.proofs.Sums.{sum_same}
+use Rattle.run.specs.State.{count_of, no_local, zone_at, local_sound, locals_sound, stocks}
+use Rattle.run.proofs.BelowLaws.{all-to, all-next, sum_to, sum-next}
 use Rattle.scan.proofs.zones_of.Statement.{statement}
 use Rattle.scan.proofs.zones_of.Tie as tie
 
 abbrev invariant-loop : tie.invariant-loop
-invariant-loop head count records zones sound₀ cars₀ i₀ sound cars i =
+invariant-loop count records zones sound₀ cars₀ i₀ sound cars i =
     (i ≤ count) × (sound ≡ all_below i (λ k. local_sound count records (get_or zones k no_local)))
     × (cars ≡ sum_below i (λ k. (get_or zones k no_local).stock))
     × (cars ≤ 65535 * i)
 
 abbrev decreases-loop : tie.decreases-loop
-decreases-loop head count records zones sound₀ cars₀ i₀ sound cars i = count - i
+decreases-loop count records zones sound₀ cars₀ i₀ sound cars i = count - i
 
 -- Landmarks: the start as seen from the zones; the loop as seen from the zone looked at.
 abbrev start : tie.After-locals invariant-loop decreases-loop → tie.Start invariant-loop decreases-loop
@@ -66,24 +63,17 @@ loop-again c =
     let b = (looped c.before).loop in
     (omega arith, all-next _ b.i b.inv.1 c.before.zone.ensures, sum-next _ b.i b.inv.2 refl, omega (arith, b.inv.3))
 
-lacked-empty-requires : tie.Need-lacked-empty-requires invariant-loop decreases-loop
-lacked-empty-requires c κs = search rules
-
 returns : tie.Need-returns invariant-loop decreases-loop
-unfolding locals_sound lacked_empty stocks
+unfolding locals_sound stocks
 returns c =
-    let b = c.before.before in
+    let b = c.before in
     let z = b.before in
     let h = (start z).args.head in
-    let n = b.loop.i in
-    let most = (start z).requires in
-    let e : n ≡ count_of h = omega arith in (
-      ap₂ ◌&&◌ (b.loop.invariant.1
-          ∙ ap (λ (zs : List Local). all_below n (λ k. local_sound (count_of h) h.records (get_or zs k no_local))) z.locals.ensures
-          ∙ all_same n _ _ (λ k l. ap (local_sound (count_of h) h.records) (zone-listed h k (omega arith)))
-          ∙ all-to (λ k. local_sound (count_of h) h.records (zone_at h k)) e) c.lacked-empty.ensures,
-      b.loop.invariant.2 ∙ ap (λ (zs : List Local). sum_below n (λ k. (get_or zs k no_local).stock)) z.locals.ensures
-          ∙ sum_same n _ _ (λ k l. ap (λ (z : Local). z.stock) (zone-listed h k (omega arith)))
+    let e : b.loop.i ≡ count_of h = omega arith in (
+      b.loop.invariant.1
+          ∙ ap (λ (zs : List Local). all_below b.loop.i (λ k. local_sound (count_of h) h.records (get_or zs k no_local))) z.locals.ensures
+          ∙ all-to (λ k. local_sound (count_of h) h.records (zone_at h k)) e,
+      b.loop.invariant.2 ∙ ap (λ (zs : List Local). sum_below b.loop.i (λ k. (get_or zs k no_local).stock)) z.locals.ensures
           ∙ sum_to (λ k. (zone_at h k).stock) e,
       omega (arith, b.loop.invariant.3),
     )
@@ -105,5 +95,4 @@ zones-of-spec =
     add-i
     loop-less
     loop-again
-    lacked-empty-requires
     returns)
