@@ -53,14 +53,14 @@ ended : (l bs : List ℕ) → set (sets l 0 (spaced bs)) (3 * length bs - 1) lin
 ended l [] = refl
 ended l (b ∷ bs) =
     let e : 3 * suc (length bs) - 1 ≡ 0 + 2 + 3 * length bs = omega arith in
-    rw e (last l b bs 0)
+    rw e (last bs b l 0)
   where
-    last : (l : List ℕ) (b : ℕ) (bs : List ℕ) (i : ℕ)
+    last : (bs : List ℕ) (b : ℕ) (l : List ℕ) (i : ℕ)
         → set (sets l i (spaced (b ∷ bs))) (i + 2 + 3 * length bs) line_feed ≡ sets l i (bytes_text (b ∷ bs))
-    last l b [] i = let e : i + 2 + 3 * 0 ≡ suc (suc i) = omega arith in rw (e, set-set)
-    last l b (c ∷ bs) i =
+    last [] b l i = let e : i + 2 + 3 * 0 ≡ suc (suc i) = omega arith in rw (e, set-set)
+    last (c ∷ bs) b l i =
         let e : i + 2 + 3 * suc (length bs) ≡ suc (suc (suc i)) + 2 + 3 * length bs = omega arith in
-        rw e (last _ c bs (suc (suc (suc i))))
+        rw e (last bs c _ (suc (suc (suc i))))
 
 pub shown-printed : (bs lent out : List ℕ) (end : ℕ) → end ≡ 3 * length bs - 1 → end < length lent → out ≡ sets lent 0 (spaced bs)
     → Prints (bytes_text bs) lent (set out end line_feed) (end + 1)

@@ -10,6 +10,7 @@ ghost use Rattle.text.specs.InnerColumn.{place_code};
 ghost use Rattle.words.specs.Bytes.{same_words};
 
 // The character of a digit.
+#[tactic(auto, unfolding(crate::specs::Text::digit_code))]
 fn digit(d: u8) -> u8
     requires { d < 16 }
     ensures { result ≡ digit_code d }
@@ -57,6 +58,7 @@ fn word(out: &mut [u8])
 
 // The character at a place of a column, by what is left of the number there: its digit, or a space where none is left. The last place has a
 // digit always.
+#[tactic(auto, unfolding(crate::specs::InnerColumn::place_code))]
 fn place(last: bool, left: u32) -> u8
     ensures { result ≡ place_code last left }
 {
@@ -108,6 +110,7 @@ pub fn refused(n: u8, out: &mut [u8]) -> usize
 }
 
 // Whether two texts are the same.
+#[tactic(auto, using(words::proofs::SameLaws::other_length, words::proofs::SameLaws::same_next))]
 pub fn same(a: &[u8], b: &[u8]) -> bool
     ensures { result ≡ same_words a.now b.now }
 {
