@@ -1,7 +1,7 @@
 // The channels ("lines") of a site: 64 of 16 places, each first in first out. Items are words; the places behind a channel's last item
 // hold 0, so that equal contents are equal values (View: `same-contents`; push, pop and requests keep it so). Callers name a channel by its index, which they know to be below `CHANNELS`.
 
-#![tactic(auto)]
+#![tactic(auto, unfolding(crate::specs::Channels::is_channel))]
 
 ghost use Rattle.std.specs.Prelude.{◌≡◌, List, ℕ, ◌<◌, min, get_or};
 ghost use Rattle.rules.specs.Limits.{most_zones, places};

@@ -1,7 +1,7 @@
 // The steps of one zone's local state, without questions: what the zone part and the site engine both run. Each is a rule of the
 // rules' specs/Zone.antt, or of this crate's specs/Requesting.antt. Zones are named by index: the number less one.
 
-#![tactic(auto)]
+#![tactic(auto, unfolding(crate::specs::Requesting::requested_by, crate::specs::Requesting::started_by, crate::specs::Requesting::turned))]
 
 ghost use Rattle.std.specs.Prelude.{◌≡◌, ◌+◌, ◌<◌, ◌≤◌};
 ghost use Rattle.rules.specs.Limits.{most_zones, most_cars, most_records};

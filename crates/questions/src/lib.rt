@@ -1,6 +1,6 @@
 // The questions (docs/RULES.md, section 7) that several parts ask, over numbers alone.
 
-#![tactic(auto)]
+#![tactic(auto, unfolding(rules::specs::Questions::is_count, rules::specs::Questions::is_on, rules::specs::Sets::within))]
 
 ghost use Rattle.std.specs.Prelude.{◌≡◌, ◌≤◌};
 ghost use Rattle.rules.specs.Limits.{most_zones};
