@@ -123,19 +123,19 @@ pub last_none : (last : ℕ) (cs : List SiteCall) (r : Run) → NoReceipt cs r �
 last_none last [] r h = refl
 last_none last (c ∷ cs) r h = rw (not-counted c r h.0) (last_none last cs (answer c r).run h.1)
 
-last-behind : (last : ℕ) (before behind : List SiteCall) (from to : ℕ) (r : Run) → let s = after before r in
+last-behind : (before : List SiteCall) (last : ℕ) (behind : List SiteCall) (from to : ℕ) (r : Run) → let s = after before r in
     is_accepted (Receive from to) s ≡ true → NoReceipt behind (answer (Receive from to) s).run
     → last_remaining last (before ++ (Receive from to ∷ behind)) r ≡ (answer (Receive from to) s).remaining
-last-behind last [] behind from to r e h =
+last-behind [] last behind from to r e h =
     let t = answer (Receive from to) r in
     ap (λ (b : Bool). last_remaining (cond (b && true) t.remaining last) behind t.run) e ∙ last_none t.remaining behind t.run h
-last-behind last (c ∷ before) behind from to r e h = last-behind _ before behind from to (answer c r).run e h
+last-behind (c ∷ before) last behind from to r e h = last-behind before _ behind from to (answer c r).run e h
 
 pub last-is : (last : ℕ) (cs : List SiteCall) (r : Run) (h : LastReceipt cs r)
     → last_remaining last cs r ≡ (answer (Receive h.from h.to) (after h.before r)).remaining
 last-is last cs r h =
     ap (λ (xs : List SiteCall). last_remaining last xs r) h.split
-    ∙ last-behind last h.before h.behind h.from h.to r h.accepted h.none
+    ∙ last-behind h.before last h.behind h.from h.to r h.accepted h.none
 
 pub last_found : (cs : List SiteCall) (r : Run) → NoReceipt cs r ⊎ LastReceipt cs r
 last_found [] r = inl tt
