@@ -35,14 +35,14 @@ pub const FLAG_WEIGHT: u16 = 256;
 // `request_weight`: what a request's word has beside its set.
 pub const REQUEST_WEIGHT: u16 = 512;
 
-#[derive(Drop)]
+#[derive(Clone, Copy)]
 pub struct Channels {
     pub items: [u16; WORDS],
     pub lens: [u8; CHANNELS],
 }
 
 // What taking the first item off a channel tells: its word, and the number of items that remain there, requests too.
-#[derive(Drop)]
+#[derive(Clone, Copy)]
 pub struct Taken {
     pub word: u16,
     pub remaining: u8,
