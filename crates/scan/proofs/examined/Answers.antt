@@ -1,0 +1,53 @@
+-- `scan::examined` meets its contract.
+
+use Rattle.scan.proofs.examined.Goals as goal
+
+is-defined : (c : tie.Else1) → is_edition (edition_of c.args.head) ≡ true
+is-defined c = yes c.is_edition.ensures c.if-not-is_edition.false
+
+is-a-count : (c : tie.Else2) → is_count (count_of c.args.head) ≡ true
+is-a-count c = yes c.is_count.ensures c.if-not-is_count.false
+
+-- A state that is not sound: of its cars nothing is said.
+unsound-is : {s : Bool} {A : Type 0} (b : Bool) → s ≡ false → b ≡ false → (s ≡ b) × (s ≡ true → A)
+unsound-is b e f = (e ∙ sym f, λ t. absurd (true≢false (sym t ∙ e)))
+
+no-edition : (h : Head) (l : Channels) → is_edition (edition_of h) ≡ false → parts_sound h l ≡ false
+unfolding parts_sound
+no-edition h l e = rw e
+
+no-count : (h : Head) (l : Channels) → is_edition (edition_of h) ≡ true → is_count (count_of h) ≡ false → parts_sound h l ≡ false
+unfolding parts_sound
+no-count h l d e = rw (d, e)
+
+pub returns-then-not-is_edition : goal.returns-then-not-is_edition
+returns-then-not-is_edition c = unsound-is _ c.unsound.ensures (no-edition _ _ (no c.is_edition.ensures c.if-not-is_edition.true))
+
+pub returns-then-not-is_count : goal.returns-then-not-is_count
+returns-then-not-is_count c =
+    let d = c in
+    unsound-is _ c.unsound-then-not-is_count.ensures (no-count _ _ (is-defined d) (no d.is_count.ensures c.if-not-is_count.true))
+
+pub zones_of-a-requires : goal.zones_of-a-requires
+zones_of-a-requires c = count-high _ (is-a-count c)
+
+pub channels-b-requires : goal.channels-b-requires
+channels-b-requires c = count-high _ (is-a-count c)
+
+pub overflow_add-cars : goal.overflow_add-cars
+overflow_add-cars c = let b = c in record { fits = omega (arith, b.zones_of-a.ensures.2, b.channels-b.ensures.2) }
+
+all-parts : (h : Head) (l : Channels) (a b : Bool) (m n : ℕ) → is_edition (edition_of h) ≡ true
+    → is_count (count_of h) ≡ true
+    → a ≡ locals_sound h → m ≡ stocks h → b ≡ channels_sound (terms_of h) l → n ≡ cars_on_channels (count_of h) l
+    → leb h.records 1000 && a && b && leb (m + n) 65535 ≡ parts_sound h l
+unfolding parts_sound
+all-parts h l a b m n d e f g i j = rw (d, e, f, g, i, j)
+
+pub returns : goal.returns
+returns c =
+    let b = c in
+    let z = b.zones_of-a.ensures in (
+      all-parts _ _ _ _ _ _ (is-defined b) (is-a-count b) z.0 z.1 b.channels-b.ensures.0 b.channels-b.ensures.1,
+      λ _. ap₂ ◌+◌ z.1 b.channels-b.ensures.1,
+    )
