@@ -1,8 +1,8 @@
--- What C's read answered, told apart: a number below 0 is a failure, and what is not a failure counts bytes of the space that was lent.
-use Rattle.std.specs.Prelude.{ℕ, min, ℤ, pos, negsuc}
+-- What a read answered, told apart: the number of bytes that it gave, or a failure.
+use Rattle.std.specs.Prelude.{ℕ, Ok, Err, Result}
 use Rattle.console.specs.declared.Input.{Input}
 use Rattle.console.specs.declared.Input.TheVariants.{Bytes, Failed}
 
-unfoldable pub input_of : ℤ → ℕ → Input
-input_of (pos n) room = Bytes (min n room)
-input_of (negsuc n) room = Failed
+unfoldable pub input_of : {E : Type 0} → Result ℕ E → Input
+input_of (Ok n) = Bytes n
+input_of (Err e) = Failed

@@ -1,51 +1,52 @@
 // Argument, standard input and output of the programs: the input is read until it ends or the space is full, and an answer written whole. Where a
-// read or a write fails it is said on standard error, since a Rattle program has no exit status to tell it by.
+// read or a write fails it is said on standard error, and the programs end with status 0 all the same.
 
-#![tactic(auto)]
+#![tactic(auto, unfolding(crate::specs::Input::input_of))]
 
 ghost use Rattle.std.specs.Prelude.{◌≡◌, ℕ, ◌+◌, ◌≤◌, length, take};
 ghost use Rattle.console.specs.Input.{input_of};
-ghost use Rattle.console.specs.declared.Input.TheVariants.{Bytes};
+ghost use Rattle.console.specs.declared.Input.TheVariants.{Bytes, Failed};
 
-use libc::{STDERR_FILENO, STDIN_FILENO, STDOUT_FILENO};
+use std::env::{Env, FillError};
+use std::io;
+use std::io::{Read, Write};
 
-// What reading gave: so many bytes, or a read failed. Which bytes they are no contract can say, as C's read promises their number alone.
-#[derive(Drop)]
+// What reading gave: so many bytes, or a read failed.
+#[derive(Clone, Copy)]
 pub enum Input {
     Bytes(usize),
     Failed,
 }
 
-// What a read into the lent space answered.
-fn input_of(got: isize, lent: &[u8]) -> Input
-    ensures { result ≡ input_of got (length lent.now) }
+// What a read answered.
+fn input_of(got: io::Result<usize>) -> Input
+    ensures { result ≡ input_of got }
 {
-    if got < 0 {
-        return Input::Failed;
+    match got {
+        Ok(n) => Input::Bytes(n),
+        Err(_) => Input::Failed,
     }
-    let n = io::count(got, lent);
-    Input::Bytes(n)
 }
 
 // One read behind the first `at` bytes, which stay as they are; at the end of the input it gives 0. A read that a signal interrupts counts
-// as failed too, since libc does not give C's errno, which tells the two apart.
-fn read_behind(space: &mut [u8], at: usize) -> Input
+// as failed too.
+fn read_behind(input: &mut impl Read, space: &mut [u8], at: usize) -> Input
     requires { at ≤ length space.old }
     ensures by_index { (n : ℕ) → result ≡ Bytes n → at + n ≤ length space.new }
     ensures space_unchanged { take at space.new ≡ take at space.old }
 {
-    let got = libc::read(STDIN_FILENO, &mut space[at..]);
-    input_of(got, &space[at..])
+    let got = input.read(&mut space[at..]);
+    input_of(got)
 }
 
 // Reads until the input ends or the space is full.
-fn read_all(space: &mut [u8]) -> Input
+fn read_all(input: &mut impl Read, space: &mut [u8]) -> Input
     ensures { (n : ℕ) → result ≡ Bytes n → n ≤ length space.new }
 {
     let mut at = 0;
     while at < space.len() {
-        let input = read_behind(space, at);
-        let Input::Bytes(n) = input else {
+        let got = read_behind(input, space, at);
+        let Input::Bytes(n) = got else {
             return Input::Failed;
         };
         if n == 0 {
@@ -57,40 +58,43 @@ fn read_all(space: &mut [u8]) -> Input
 }
 
 // The same for the program of this name, which says where a read fails.
-pub fn read(program: &[u8], space: &mut [u8]) -> Input
+pub fn read(
+    input: &mut impl Read,
+    errors: &mut impl Write,
+    program: &[u8],
+    space: &mut [u8],
+) -> Input
     ensures { (n : ℕ) → result ≡ Bytes n → n ≤ length space.new }
 {
-    let input = read_all(space);
-    let Input::Bytes(n) = input else {
-        io::write_all(STDERR_FILENO, program);
-        io::write_all(STDERR_FILENO, b": standard input could not be read\n");
+    let got = read_all(input, space);
+    let Input::Bytes(n) = got else {
+        say(errors, program);
+        say(errors, b": standard input could not be read\n");
         return Input::Failed;
     };
     Input::Bytes(n)
 }
 
-// Writes an answer of the program of this name, which says where not all of it was written. It has no contract: C's write promises the number of
-// bytes alone, and the kit has no statement of what stands on a file.
-pub fn write(program: &[u8], answer: &[u8]) {
-    if !io::write_all(STDOUT_FILENO, answer) {
-        io::write_all(STDERR_FILENO, program);
-        io::write_all(STDERR_FILENO, b": the answer was not written whole\n");
+// Writes an answer of the program of this name, which says where not all of it was written.
+pub fn write(output: &mut impl Write, errors: &mut impl Write, program: &[u8], answer: &[u8]) {
+    if output.write_all(answer).is_err() {
+        say(errors, program);
+        say(errors, b": the answer was not written whole\n");
     }
 }
 
-// Writes a text to standard error: a refusal that must not stand in the answer, or how a program is called. It has no contract, for the same
-// reason.
-pub fn say(text: &[u8]) {
-    io::write_all(STDERR_FILENO, text);
+// Writes a text to standard error: a refusal that must not stand in the answer, or how a program is called.
+pub fn say(errors: &mut impl Write, text: &[u8]) {
+    let _ = errors.write_all(text);
 }
 
 // The program's one argument, at the front of the space: its length, or 0 where there is none, more than one, or one that is longer than the
 // space. Which bytes it has no contract can say.
-pub fn argument(space: &mut [u8]) -> usize
+pub fn argument(rt: &impl Env, space: &mut [u8]) -> usize
     ensures { result ≤ length space.new }
 {
-    if os::arg_count() != 2 {
-        return 0;
+    if let Err(FillError::NotPresent) = rt.arg(2, &mut []) {
+        return rt.arg(1, space).unwrap_or(0);
     }
-    os::arg(1, space)
+    0
 }
