@@ -11,14 +11,21 @@ use report::Choice;
 // More than the longer name of a conversion has.
 const ARGUMENT_BYTES: usize = 16;
 
-fn main() {
+fn main(rt: HostRuntime) {
     let mut argument = [0u8; ARGUMENT_BYTES];
-    let n = console::argument(&mut argument);
+    let n = console::argument(&rt, &mut argument);
     let choice = report::chosen(&argument[..n]);
     let Choice::Named(conversion) = choice else {
-        console::say(b"usage: cut_convert upgrade|downgrade\n");
+        console::say(&mut rt.stderr(), b"usage: cut_convert upgrade|downgrade\n");
         return;
     };
     let mut out = [0u8; JOURNAL_BYTES];
-    programs::run(b"cut_convert", Job::Convert(conversion), &mut out);
+    programs::run(
+        &mut rt.stdin(),
+        &mut rt.stdout(),
+        &mut rt.stderr(),
+        b"cut_convert",
+        Job::Convert(conversion),
+        &mut out,
+    );
 }

@@ -5,7 +5,14 @@
 use page::PAGE_BYTES;
 use programs::Job;
 
-fn main() {
+fn main(rt: HostRuntime) {
     let mut out = [0u8; PAGE_BYTES];
-    programs::run(b"cut_page", Job::Page, &mut out);
+    programs::run(
+        &mut rt.stdin(),
+        &mut rt.stdout(),
+        &mut rt.stderr(),
+        b"cut_page",
+        Job::Page,
+        &mut out,
+    );
 }

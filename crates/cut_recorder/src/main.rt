@@ -5,7 +5,14 @@
 use programs::Job;
 use report::TEXT_BYTES;
 
-fn main() {
+fn main(rt: HostRuntime) {
     let mut out = [0u8; TEXT_BYTES];
-    programs::run(b"cut_recorder", Job::Record, &mut out);
+    programs::run(
+        &mut rt.stdin(),
+        &mut rt.stdout(),
+        &mut rt.stderr(),
+        b"cut_recorder",
+        Job::Record,
+        &mut out,
+    );
 }

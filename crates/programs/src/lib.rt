@@ -7,6 +7,7 @@ ghost use Rattle.std.specs.Prelude.{◌≤◌, length};
 use console::Input;
 use conversion::Conversion;
 use report::SEEN_BYTES;
+use std::io::{Read, Write};
 
 // What is made of a journal: its recording, the page of its recording, or its conversion.
 #[derive(Drop)]
@@ -17,7 +18,7 @@ pub enum Job {
 }
 
 // What was made: so many of the lent bytes. Where `aside` is true they are a refusal that must not stand in the answer.
-#[derive(Drop)]
+#[derive(Clone, Copy)]
 struct Output {
     aside: bool,
     bytes: usize,
@@ -60,17 +61,24 @@ fn made(job: Job, journal: &[u8], out: &mut [u8]) -> Output
 
 // The whole run of the program of this name, with a journal's bytes as far as its text depends on them, and bytes lent that are enough for its
 // answer. Where the input could not be read, which `console::read` says, nothing is written.
-pub fn run(program: &[u8], job: Job, out: &mut [u8]) {
+pub fn run(
+    input: &mut impl Read,
+    output: &mut impl Write,
+    errors: &mut impl Write,
+    program: &[u8],
+    job: Job,
+    out: &mut [u8],
+) {
     let mut space = [0u8; SEEN_BYTES];
-    let input = console::read(program, &mut space);
-    let Input::Bytes(n) = input else {
+    let got = console::read(input, errors, program, &mut space);
+    let Input::Bytes(n) = got else {
         return;
     };
-    let output = made(job, &space[..n], out);
-    let m = output.bytes;
-    if output.aside {
-        console::say(&out[..m]);
+    let answer = made(job, &space[..n], out);
+    let m = answer.bytes;
+    if answer.aside {
+        console::say(errors, &out[..m]);
         return;
     }
-    console::write(program, &out[..m]);
+    console::write(output, errors, program, &out[..m]);
 }

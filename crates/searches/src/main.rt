@@ -4,12 +4,12 @@
 #![tactic(auto)]
 
 use channel::CHANNELS;
-use libc::{STDIN_FILENO, STDOUT_FILENO};
 use rules::ZONES;
+use std::io::{Read, Write};
 
 // The zone that is named, as a digit on a line. For a sender that no site has, or an answer of two digits, the line would be missing, and the
 // gate's comparison fail.
-fn print(lens: &[u8; CHANNELS], from: u8, to: u8) {
+fn print(output: &mut impl Write, lens: &[u8; CHANNELS], from: u8, to: u8) {
     let at = from as usize;
     if ZONES <= at {
         return;
@@ -17,27 +17,27 @@ fn print(lens: &[u8; CHANNELS], from: u8, to: u8) {
     let zone = channel::highest_full(lens, at, to);
     if zone < 10 {
         let line = [48 + zone, 10];
-        io::write_all(STDOUT_FILENO, &line);
+        let _ = output.write_all(&line);
     }
 }
 
 // One state and its line; whether there was one.
-fn one() -> bool {
+fn one(input: &mut impl Read, output: &mut impl Write) -> bool {
     let mut lens = [0u8; CHANNELS];
     let mut asked = [0u8; 2];
-    let m = io::read_full(STDIN_FILENO, &mut lens);
-    let n = io::read_full(STDIN_FILENO, &mut asked);
-    if m != CHANNELS || n != 2 {
+    if input.read_exact(&mut lens).is_err() || input.read_exact(&mut asked).is_err() {
         return false;
     }
-    print(&lens, asked[0], asked[1]);
+    print(output, &lens, asked[0], asked[1]);
     true
 }
 
 // More turns than the gate has states.
-fn main() {
+fn main(rt: HostRuntime) {
+    let mut input = rt.stdin();
+    let mut output = rt.stdout();
     for _ in 0..1000000u32 {
-        if !one() {
+        if !one(&mut input, &mut output) {
             return;
         }
     }
