@@ -3,7 +3,8 @@
 
 #![tactic(auto, unfolding(crate::specs::Input::input_of))]
 
-ghost use Rattle.std.specs.Prelude.{◌≡◌, ℕ, ◌+◌, ◌≤◌, length, take};
+ghost use Rattle.std.specs.Prelude.{◌≡◌, ℕ, ◌+◌, ◌<◌, ◌≤◌, length, take, drop};
+ghost use Rattle.std.specs.Io.KnownBytes.{Consumes, IsAtEnd};
 ghost use Rattle.console.specs.Input.{input_of};
 ghost use Rattle.console.specs.declared.Input.TheVariants.{Bytes, Failed};
 
@@ -30,18 +31,22 @@ fn input_of(got: io::Result<usize>) -> Input
 
 // One read behind the first `at` bytes, which stay as they are; at the end of the input it gives 0. A read that a signal interrupts counts
 // as failed too.
-fn read_behind(input: &mut impl Read, space: &mut [u8], at: usize) -> Input
+fn read_behind<I: Read>(input: &mut I, space: &mut [u8], at: usize) -> Input
     requires { at ≤ length space.old }
     ensures by_index { (n : ℕ) → result ≡ Bytes n → at + n ≤ length space.new }
     ensures space_unchanged { take at space.new ≡ take at space.old }
+    ensures bytes { (n : ℕ) → result ≡ Bytes n → Consumes (I.remaining input.old) (I.remaining input.new) (take n (drop at space.new)) }
+    ensures end { result ≡ Bytes 0 → at < length space.new → IsAtEnd (I.remaining input.new) }
 {
     let got = input.read(&mut space[at..]);
     input_of(got)
 }
 
 // Reads until the input ends or the space is full.
-fn read_all(input: &mut impl Read, space: &mut [u8]) -> Input
-    ensures { (n : ℕ) → result ≡ Bytes n → n ≤ length space.new }
+fn read_all<I: Read>(input: &mut I, space: &mut [u8]) -> Input
+    ensures within { (n : ℕ) → result ≡ Bytes n → n ≤ length space.new }
+    ensures bytes { (n : ℕ) → result ≡ Bytes n → Consumes (I.remaining input.old) (I.remaining input.new) (take n space.new) }
+    ensures end { (n : ℕ) → result ≡ Bytes n → n < length space.new → IsAtEnd (I.remaining input.new) }
 {
     let mut at = 0;
     while at < space.len() {
@@ -58,13 +63,15 @@ fn read_all(input: &mut impl Read, space: &mut [u8]) -> Input
 }
 
 // The same for the program of this name, which says where a read fails.
-pub fn read(
-    input: &mut impl Read,
+pub fn read<I: Read>(
+    input: &mut I,
     errors: &mut impl Write,
     program: &[u8],
     space: &mut [u8],
 ) -> Input
-    ensures { (n : ℕ) → result ≡ Bytes n → n ≤ length space.new }
+    ensures within { (n : ℕ) → result ≡ Bytes n → n ≤ length space.new }
+    ensures bytes { (n : ℕ) → result ≡ Bytes n → Consumes (I.remaining input.old) (I.remaining input.new) (take n space.new) }
+    ensures end { (n : ℕ) → result ≡ Bytes n → n < length space.new → IsAtEnd (I.remaining input.new) }
 {
     let got = read_all(input, space);
     let Input::Bytes(n) = got else {
