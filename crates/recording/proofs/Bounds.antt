@@ -187,9 +187,9 @@ module _ (r : Run) (w : WholeRun r) (e : is_replayed r ≡ true) where
   shown_list : List ℕ
   shown_list = list_below 8 (snapshot_of r).events
 
-  items_at : (k : ℕ) → k < 64 → channel_words (snapshot_of r) k ≡ items_at k shown_list (words_at r) (ordinals_of (words_at r) (first_run r))
+  items_at_lem : (k : ℕ) → k < 64 → channel_words (snapshot_of r) k ≡ items_at k shown_list (words_at r) (ordinals_of (words_at r) (first_run r))
   unfolding shown_list
-  items_at k h =
+  items_at_lem k h =
       items_of r w e shown_list k h (list_at 8 (snapshot_of r).events 0 (k / 8) (omega arith)) (list_at 8 (snapshot_of r).events 0 (k % 8) (omega arith))
 
   -- "number of items on lines (10)".
@@ -208,7 +208,7 @@ module _ (r : Run) (w : WholeRun r) (e : is_replayed r ≡ true) where
     where
       fewer : (k : ℕ) → k < 64 → (p : Bool)
           → length (cond p (channel_words (snapshot_of r) k) []) ≤ length (sent_words k shown_list (words_at r) (ordinals_of (words_at r) (first_run r)))
-      fewer k h true = rw (items_at k h, length-drop) (omega arith)
+      fewer k h true = rw (items_at_lem k h, length-drop) (omega arith)
       fewer k h false = omega arith
 
   pub items-few : length (item_words (count_of r.head) (snapshot_of r)) ≤ r.head.records
@@ -251,7 +251,7 @@ module _ (r : Run) (w : WholeRun r) (e : is_replayed r ≡ true) where
   pub words-on : (k : ℕ) → k < 64 → All (λ w. w / 256 ≡ k) (channel_words (snapshot_of r) k)
   words-on k h =
       let ns = ordinals_of (words_at r) (first_run r) in
-      subst (All (λ w. w / 256 ≡ k)) (sym (items_at k h))
+      subst (All (λ w. w / 256 ≡ k)) (sym (items_at_lem k h))
       (all_drop (λ w. w / 256 ≡ k) (taken_count k shown_list (words_at r) ns) (sent_words k shown_list (words_at r) ns) (sent-on k shown_list (words_at r) ns))
 
   pub cars-few : (i j : ℕ) → i < 8 → j < 8 → All (λ c. c < 256) ((snapshot_of r).park.channel i j)

@@ -98,7 +98,7 @@ module _ (i j : ℕ) where
   hand-sent a b cars p ms = go p (here a b) refl
     where
       go : (p q : Bool) → here a b ≡ q → sent_by (cons-if p (hand a b cars) ms) ≡ cons-if (q && p) (send_record a b cars) (sent_by ms)
-      go true true e = let (x, y) = both_true i a j b e in rw (e, x, y)
+      go true true e = let (x, y) = both_true i a j b e in rw (e, ← x, ← y)
       go true false e = rw e
       go false true e = refl
       go false false e = refl

@@ -1,5 +1,10 @@
 -- `scan::channel_at` meets its contract.
-
+use mathlib.Core.Path.{◌≡◌, refl, sym, ◌∙◌}
+use mathlib.Core.Bool.{true, false}
+use native.Mathlib.Omega.{arith}
+use borrow.Author.Tests.{not-true, not-false}
+use Rattle.channel.specs.Channels.{is_channel}
+use borrow.Author.Rules.{rules}
 use Rattle.scan.proofs.channel_at.Goals as goal
 
 pub returns-then-not-is_channel : goal.returns-then-not-is_channel

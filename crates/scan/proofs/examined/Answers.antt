@@ -1,5 +1,17 @@
 -- `scan::examined` meets its contract.
-
+use mathlib.Core.Path.{◌≡◌, sym, ◌∙◌, ap₂}
+use mathlib.Core.Bool.{Bool, true, false, ◌&&◌, true≢false}
+use Prim.Native.Nat.{ℕ, ◌+◌}
+use native.Mathlib.Omega.{arith}
+use borrow.Author.Rules.{rules}
+use lib.Dec.{leb}
+use Rattle.rules.specs.Edition.{is_edition}
+use Rattle.rules.specs.Questions.{is_count}
+use Rattle.rules.proofs.QuestionLaws.{count-high}
+use Rattle.rules.proofs.Tests.{no, yes}
+use Rattle.channel.specs.declared.Channels.{Channels}
+use Rattle.run.specs.State.{terms_of, edition_of, count_of, locals_sound, channels_sound, stocks, cars_on_channels, parts_sound}
+use Rattle.run.specs.declared.Head.{Head}
 use Rattle.scan.proofs.examined.Goals as goal
 
 is-defined : (c : tie.Else1) → is_edition (edition_of c.args.head) ≡ true

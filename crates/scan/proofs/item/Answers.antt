@@ -1,5 +1,12 @@
 -- `scan::item` meets its contract: a set of zones of the site, and every message, has a word below the limit.
-
+use mathlib.Core.Path.{◌≡◌, refl, sym}
+use Prim.Native.Nat.{◌^◌, ◌+◌, ◌*◌, ◌%◌, ◌≤◌}
+use native.Mathlib.Omega.{arith}
+use borrow.Author.Tests.{lt-ltb, le-ltb}
+use lib.Pow.{pow_pos, pow_mono}
+use Rattle.channel.specs.Words.{item_of}
+use Rattle.scan.proofs.Laws.{below-limit}
+use borrow.Author.Rules.{rules}
 use Rattle.scan.proofs.item.Goals as goal
 
 -- A site's sets are bytes.

@@ -1,5 +1,6 @@
 -- `scan::zone` meets its contract.
-
+use Rattle.run.specs.State.{local_sound}
+use borrow.Author.Rules.{rules}
 use Rattle.scan.proofs.zone.Goals as goal
 
 pub returns : goal.returns
