@@ -1,9 +1,6 @@
 -- `scan::examined` meets its contract.
-use mathlib.Core.Path.{◌≡◌, sym, ◌∙◌, ap₂}
-use mathlib.Core.Bool.{Bool, true, false, ◌&&◌, true≢false}
-use Prim.Native.Nat.{ℕ, ◌+◌}
-use native.Mathlib.Omega.{arith}
-use borrow.Author.Rules.{rules}
+use Rattle.std.proofs.Common.{◌≡◌, ◌≤◌, ◌<◌, ◌+◌, ◌-◌, ◌*◌, ◌^◌, ◌%◌, ◌&&◌, ℕ, List, Bool, true, false, length, take, drop, get_or, refl, sym, ◌∙◌, ap, ap₂, subst, arith, min, map}
+use mathlib.Core.Bool.{true≢false}
 use lib.Dec.{leb}
 use Rattle.rules.specs.Edition.{is_edition}
 use Rattle.rules.specs.Questions.{is_count}
@@ -13,12 +10,6 @@ use Rattle.channel.specs.declared.Channels.{Channels}
 use Rattle.run.specs.State.{terms_of, edition_of, count_of, locals_sound, channels_sound, stocks, cars_on_channels, parts_sound}
 use Rattle.run.specs.declared.Head.{Head}
 use Rattle.scan.proofs.examined.Goals as goal
-
-is-defined : (c : tie.Else1) → is_edition (edition_of c.args.head) ≡ true
-is-defined c = yes c.is_edition.ensures c.if-not-is_edition.false
-
-is-a-count : (c : tie.Else2) → is_count (count_of c.args.head) ≡ true
-is-a-count c = yes c.is_count.ensures c.if-not-is_count.false
 
 -- A state that is not sound: of its cars nothing is said.
 unsound-is : {s : Bool} {A : Type 0} (b : Bool) → s ≡ false → b ≡ false → (s ≡ b) × (s ≡ true → A)
@@ -33,21 +24,18 @@ unfolding parts_sound
 no-count h l d e = rw (d, e)
 
 pub returns-then-not-is_edition : goal.returns-then-not-is_edition
-returns-then-not-is_edition c = unsound-is _ c.unsound.ensures (no-edition _ _ (no c.is_edition.ensures c.if-not-is_edition.true))
+returns-then-not-is_edition c = unsound-is _ c.unsound.ensures (no-edition _ _ (sym c.is_edition.ensures ∙ c.if-not-is_edition.true))
 
 pub returns-then-not-is_count : goal.returns-then-not-is_count
 returns-then-not-is_count c =
-    let d = c in
-    unsound-is _ c.unsound-then-not-is_count.ensures (no-count _ _ (is-defined d) (no d.is_count.ensures c.if-not-is_count.true))
+    unsound-is _ c.unsound-then-not-is_count.ensures
+    (no-count _ _ (sym c.is_edition.ensures ∙ c.if-not-is_edition.false) (sym c.is_count.ensures ∙ c.if-not-is_count.true))
 
 pub zones_of-a-requires : goal.zones_of-a-requires
-zones_of-a-requires c = count-high _ (is-a-count c)
+zones_of-a-requires c = count-high _ (sym c.is_count.ensures ∙ c.if-not-is_count.false)
 
 pub channels-b-requires : goal.channels-b-requires
-channels-b-requires c = count-high _ (is-a-count c)
-
-pub overflow_add-cars : goal.overflow_add-cars
-overflow_add-cars c = let b = c in record { fits = omega (arith, b.zones_of-a.ensures.2, b.channels-b.ensures.2) }
+channels-b-requires c = count-high _ (sym c.is_count.ensures ∙ c.if-not-is_count.false)
 
 all-parts : (h : Head) (l : Channels) (a b : Bool) (m n : ℕ) → is_edition (edition_of h) ≡ true
     → is_count (count_of h) ≡ true
@@ -58,8 +46,8 @@ all-parts h l a b m n d e f g i j = rw (d, e, f, g, i, j)
 
 pub returns : goal.returns
 returns c =
-    let b = c in
-    let z = b.zones_of-a.ensures in (
-      all-parts _ _ _ _ _ _ (is-defined b) (is-a-count b) z.0 z.1 b.channels-b.ensures.0 b.channels-b.ensures.1,
-      λ _. ap₂ ◌+◌ z.1 b.channels-b.ensures.1,
+    let z = c.zones_of-a.ensures in
+    let l = c.channels-b.ensures in (
+      all-parts _ _ _ _ _ _ (sym c.is_edition.ensures ∙ c.if-not-is_edition.false) (sym c.is_count.ensures ∙ c.if-not-is_count.false) z.0 z.1 l.0 l.1,
+      λ _. ap₂ ◌+◌ z.1 l.1,
     )

@@ -1,23 +1,14 @@
 -- `scan::item` meets its contract: a set of zones of the site, and every message, has a word below the limit.
-use mathlib.Core.Path.{◌≡◌, refl, sym}
-use Prim.Native.Nat.{◌^◌, ◌+◌, ◌*◌, ◌%◌, ◌≤◌}
-use native.Mathlib.Omega.{arith}
+use Rattle.std.proofs.Common.{◌≡◌, ◌≤◌, ◌<◌, ◌+◌, ◌-◌, ◌*◌, ◌^◌, ◌%◌, ◌&&◌, ℕ, List, Bool, true, false, length, take, drop, get_or, refl, sym, ◌∙◌, ap, ap₂, subst, arith, min, map}
 use borrow.Author.Tests.{lt-ltb, le-ltb}
 use lib.Pow.{pow_pos, pow_mono}
 use Rattle.channel.specs.Words.{item_of}
 use Rattle.scan.proofs.Laws.{below-limit}
-use borrow.Author.Rules.{rules}
 use Rattle.scan.proofs.item.Goals as goal
 
 -- A site's sets are bytes.
-small : (c : tie.Start) → 2 ^ c.args.count ≤ 256
-small c = pow_mono {i = c.args.count} {j = 8} c.requires
-
-limit_is : (c : tie.Start) → 1 * 2 ^ c.args.count % 65536 ≡ 2 ^ c.args.count
-limit_is c = let h = small c in omega arith
-
-pub overflow_add-limit : goal.overflow_add-limit
-overflow_add-limit c = let h = small c in omega (arith, limit_is c)
+limit_is : (count : ℕ) → count ≤ 8 → 1 * 2 ^ count % 65536 ≡ 2 ^ count
+limit_is count h = let small : 2 ^ count ≤ 256 = pow_mono {i = count} {j = 8} h in omega arith
 
 pub returns-then-word-lt-REQUEST_WEIGHT : goal.returns-then-word-lt-REQUEST_WEIGHT
 unfolding item_of
@@ -29,4 +20,5 @@ pub returns : goal.returns
 unfolding item_of
 returns c =
     let a = c.args in
-    rw (le-ltb _ _ c.if-word-lt-REQUEST_WEIGHT.false, limit_is c) (below-limit a.count a.word c.if-word-lt-REQUEST_WEIGHT.false, refl, omega arith)
+    let b = c.if-word-lt-REQUEST_WEIGHT.false in
+    rw (le-ltb _ _ b, limit_is a.count c.requires) (below-limit a.count a.word b, refl, omega arith)
