@@ -1,7 +1,7 @@
 // The zone part: one zone's state and its steps, for a controller that has lines of its own. Each step takes the zone and hands back the
 // next one, and answers the number of the first question (docs/RULES.md, section 7) that was answered no, or 0.
 
-#![tactic(auto)]
+#![tactic(auto, unfolding(crate::specs::Zone::is_other, crate::specs::Zone::is_zone_sound, crate::specs::Zone::open_zone, crate::specs::Zone::send_step, crate::specs::Zone::receive_step, crate::specs::Zone::request_step, crate::specs::Zone::start_step, crate::specs::Zone::gate_step, crate::specs::Zone::next_target))]
 
 ghost use Rattle.std.specs.Prelude.{◌≡◌, [], ◌∷◌, ◌≤◌};
 ghost use Rattle.rules.specs.Limits.{most_zones};
@@ -27,7 +27,7 @@ use rules::{Checkpoint, Direction, FEWEST_ZONES, Local, MOST_CARS, MOST_RECORDS}
 
 // One zone: its edition, its number and the zone count of its site, its stock, its dependency set ("heard set": the zone numbered k is
 // the bit of weight 2 to the power k - 1), its own events and its checkpoint ("mark").
-#[derive(Drop)]
+#[derive(Clone, Copy)]
 pub struct Zone {
     pub edition: u8,
     pub number: u8,
@@ -39,7 +39,7 @@ pub struct Zone {
 }
 
 // What opening answers: the refusal's number or 0, and the zone.
-#[derive(Drop)]
+#[derive(Clone, Copy)]
 pub struct ZoneOpened {
     pub refusal: u8,
     pub zone: Zone,
@@ -47,7 +47,7 @@ pub struct ZoneOpened {
 
 // What a step answers: the refusal's number or 0, the next zone, the flag ("marked bit") that goes with a message sent, the set of
 // zones to be sent a request and the set that each request carries.
-#[derive(Drop)]
+#[derive(Clone, Copy)]
 pub struct Step {
     pub refusal: u8,
     pub zone: Zone,

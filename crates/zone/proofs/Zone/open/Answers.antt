@@ -1,0 +1,6 @@
+-- `zone::Zone::open` meets its contract: a zone of a site has number 1 to 8.
+use Rattle.zone.proofs.Laws.{on-site}
+use Rattle.zone.proofs.Zone.open.Goals as goal
+
+pub opened-requires-2 : goal.opened-requires-2
+opened-requires-2 c = on-site c.args.count c.args.number (cc) (cc)
