@@ -1,7 +1,7 @@
-// The zone part for C: the same steps over a plain struct, since an enum is not exported. The header is c/cut/zone.h. A mark kind above 2 is
-// unsound and meets 1; a refused struct comes back equal in every field.
+// The zone part for C: the same steps over a plain struct, since an enum is not exported. The header is c/cut/zone.h; zone_exports gives each
+// call its name there. A mark kind above 2 is unsound and meets 1; a refused struct comes back equal in every field.
 
-#![tactic(auto)]
+#![tactic(auto, unfolding(crate::specs::Plain::mark_of, crate::specs::Plain::answer_plain, crate::specs::Plain::send_plain, crate::specs::Plain::receive_plain, crate::specs::Plain::request_plain, crate::specs::Plain::start_plain, crate::specs::Plain::gate_plain))]
 
 ghost use Rattle.std.specs.Prelude.{◌≡◌};
 ghost use Rattle.rules.specs.Sets.{size};
@@ -29,7 +29,7 @@ use zone::{Step, Zone};
 
 // The stock and the own events that a mark keeps.
 #[repr(C)]
-#[derive(Drop)]
+#[derive(Clone, Copy)]
 pub struct PlainSaved {
     pub stock: u16,
     pub events: u16,
@@ -38,7 +38,7 @@ pub struct PlainSaved {
 // A zone as C keeps it; mark is 0 (none), 1 (provisional) or 2 (firm), and with 0 the saved values mean nothing. The mark has 32 bits, as an
 // enum of C has, so that a zone fills two registers.
 #[repr(C)]
-#[derive(Drop)]
+#[derive(Clone, Copy)]
 pub struct PlainZone {
     pub number: u8,
     pub count: u8,
@@ -52,7 +52,7 @@ pub struct PlainZone {
 
 // What opening answers.
 #[repr(C)]
-#[derive(Drop)]
+#[derive(Clone, Copy)]
 pub struct PlainOpening {
     pub zone: PlainZone,
     pub refusal: u8,
@@ -60,7 +60,7 @@ pub struct PlainOpening {
 
 // What a step answers; flag is 0 or 1.
 #[repr(C)]
-#[derive(Drop)]
+#[derive(Clone, Copy)]
 pub struct PlainStep {
     pub zone: PlainZone,
     pub refusal: u8,
@@ -192,8 +192,7 @@ fn answer(p: PlainZone, s: Step) -> PlainStep
 }
 
 // Opening one zone.
-#[unsafe(no_mangle)]
-pub extern "C" fn cut_zone_open(edition: u8, count: u8, number: u8, stock: u16) -> PlainOpening
+pub fn cut_zone_open(edition: u8, count: u8, number: u8, stock: u16) -> PlainOpening
     ensures { result ≡ open_plain edition count number stock }
 {
     let opened = Zone::open(edition, count, number, stock);
@@ -206,8 +205,7 @@ pub extern "C" fn cut_zone_open(edition: u8, count: u8, number: u8, stock: u16) 
 }
 
 // A message ("hand-over") of some cars is sent to another zone.
-#[unsafe(no_mangle)]
-pub extern "C" fn cut_zone_send(p: PlainZone, to: u8, cars: u8) -> PlainStep
+pub fn cut_zone_send(p: PlainZone, to: u8, cars: u8) -> PlainStep
     ensures { result ≡ send_plain p to cars }
 {
     if 2 < p.mark {
@@ -217,8 +215,7 @@ pub extern "C" fn cut_zone_send(p: PlainZone, to: u8, cars: u8) -> PlainStep
 }
 
 // A message ("hand-over") is received from another zone; any flag but 0 counts as 1.
-#[unsafe(no_mangle)]
-pub extern "C" fn cut_zone_receive(p: PlainZone, from: u8, cars: u8, flag: u8) -> PlainStep
+pub fn cut_zone_receive(p: PlainZone, from: u8, cars: u8, flag: u8) -> PlainStep
     ensures { result ≡ receive_plain p from cars flag }
 {
     if 2 < p.mark {
@@ -228,8 +225,7 @@ pub extern "C" fn cut_zone_receive(p: PlainZone, from: u8, cars: u8, flag: u8) -
 }
 
 // A request with its set is received.
-#[unsafe(no_mangle)]
-pub extern "C" fn cut_zone_request(p: PlainZone, set: u8) -> PlainStep
+pub fn cut_zone_request(p: PlainZone, set: u8) -> PlainStep
     ensures { result ≡ request_plain p set }
 {
     if 2 < p.mark {
@@ -239,8 +235,7 @@ pub extern "C" fn cut_zone_request(p: PlainZone, set: u8) -> PlainStep
 }
 
 // A recording is started by this zone.
-#[unsafe(no_mangle)]
-pub extern "C" fn cut_zone_start(p: PlainZone) -> PlainStep
+pub fn cut_zone_start(p: PlainZone) -> PlainStep
     ensures { result ≡ start_plain p }
 {
     if 2 < p.mark {
@@ -250,8 +245,7 @@ pub extern "C" fn cut_zone_start(p: PlainZone) -> PlainStep
 }
 
 // Cars drive in from the street.
-#[unsafe(no_mangle)]
-pub extern "C" fn cut_zone_enter(p: PlainZone, cars: u8) -> PlainStep
+pub fn cut_zone_enter(p: PlainZone, cars: u8) -> PlainStep
     ensures { result ≡ gate_plain p In cars }
 {
     if 2 < p.mark {
@@ -261,8 +255,7 @@ pub extern "C" fn cut_zone_enter(p: PlainZone, cars: u8) -> PlainStep
 }
 
 // Cars drive out to the street.
-#[unsafe(no_mangle)]
-pub extern "C" fn cut_zone_leave(p: PlainZone, cars: u8) -> PlainStep
+pub fn cut_zone_leave(p: PlainZone, cars: u8) -> PlainStep
     ensures { result ≡ gate_plain p Out cars }
 {
     if 2 < p.mark {
@@ -272,16 +265,14 @@ pub extern "C" fn cut_zone_leave(p: PlainZone, cars: u8) -> PlainStep
 }
 
 // The number of requests to be sent to the zones of a set.
-#[unsafe(no_mangle)]
-pub extern "C" fn cut_zone_requests(to: u8) -> u32
+pub fn cut_zone_requests(to: u8) -> u32
     ensures { result ≡ size to }
 {
     zone::requests(to)
 }
 
 // The number of the zone to be sent to next of a set; 0 where it is empty.
-#[unsafe(no_mangle)]
-pub extern "C" fn cut_zone_next(set: u8) -> u8
+pub fn cut_zone_next(set: u8) -> u8
     ensures { result ≡ next_target set }
 {
     zone::next_of(set)
