@@ -1,0 +1,47 @@
+-- `steps::start` meets its contract: 5, 6, 11, 10, then the requests.
+use Rattle.std.proofs.Common.{◌≡◌, ◌≤◌, ◌<◌, ◌+◌, ◌-◌, ◌*◌, ◌^◌, ◌%◌, ◌/◌, ◌++◌, ◌∷◌, [], ◌&&◌, ◌⊎◌, cond, not, ℕ, List, Bool, true, false, length, take, drop, get_or, refl, sym, ◌∙◌, ap, ap₂, subst, arith, rules, min, map, add-one, add-zero, inl, inr}
+use Rattle.rules.specs.Questions.{is_on}
+use Rattle.rules.proofs.Tests.{no, yes}
+use Rattle.channel.specs.Channels.{channels_as}
+use Rattle.channel.proofs.Search.{some-full, none-full}
+use Rattle.run.specs.declared.SiteCall.{SiteCall}
+use Rattle.run.specs.declared.SiteCall.TheVariants.{Start}
+use Rattle.run.proofs.Outcome.{zone-sited}
+use Rattle.steps.proofs.Laws.{effect-5, effect-6, Behind, behind-both, start-11, start-10, start-0}
+use Rattle.steps.proofs.start.Goals as goal
+
+pub returns-then-not-is_on : goal.returns-then-not-is_on
+returns-then-not-is_on c = λ held.
+    effect-5 (Start c.args.zone) _ _ _ _ _ held tt _ c.no_effect.ensures (sym c.is_on.ensures ∙ c.if-not-is_on.true)
+
+pub returns-then-records-ge-MOST_RECORDS : goal.returns-then-records-ge-MOST_RECORDS
+returns-then-records-ge-MOST_RECORDS c = λ held.
+    effect-6 (Start c.args.zone) _ _ _ _ _ held tt (sym c.is_on.ensures ∙ c.if-not-is_on.false) _ c.no_effect-then-records-ge-MOST_RECORDS.ensures c.if-records-ge-MOST_RECORDS.true
+
+pub returns-then-started : goal.returns-then-started
+returns-then-started c = λ held.
+    start-11 _ _ _ _ _ held _ c.no_effect-then-started.ensures c.if-started.true ∙ (behind-both (Start c.args.zone) _ _ _ _ c.requires tt (sym c.is_on.ensures ∙ c.if-not-is_on.false) c.if-records-ge-MOST_RECORDS.false).own _ _ held
+
+pub overflow_sub-a : goal.overflow_sub-a
+overflow_sub-a c = (zone-sited 8 _ (behind-both (Start c.args.zone) _ _ _ _ c.requires tt (sym c.is_on.ensures ∙ c.if-not-is_on.false) c.if-records-ge-MOST_RECORDS.false).fits).0
+
+pub start-got-requires : goal.start-got-requires
+start-got-requires c = (zone-sited 8 _ (behind-both (Start c.args.zone) _ _ _ _ c.requires tt (sym c.is_on.ensures ∙ c.if-not-is_on.false) c.if-records-ge-MOST_RECORDS.false).fits).1
+
+pub highest_full-full-requires : goal.highest_full-full-requires
+highest_full-full-requires c = (zone-sited 8 _ (behind-both (Start c.args.zone) _ _ _ _ c.requires tt (sym c.is_on.ensures ∙ c.if-not-is_on.false) c.if-records-ge-MOST_RECORDS.false).fits).1
+
+pub returns-then-full-ne0 : goal.returns-then-full-ne0
+returns-then-full-ne0 c = λ held.
+    start-10 _ _ _ _ _ held c.if-started.false _ c.start-got.ensures _ c.no_effect-then-full-ne0.ensures
+    (some-full _ _ _ _ (c.highest_full-full.ensures _) c.if-full-ne0.true)
+    ∙ (behind-both (Start c.args.zone) _ _ _ _ c.requires tt (sym c.is_on.ensures ∙ c.if-not-is_on.false) c.if-records-ge-MOST_RECORDS.false).own _ _ held
+
+pub request_all-requires : goal.request_all-requires
+request_all-requires c = (zone-sited 8 _ (behind-both (Start c.args.zone) _ _ _ _ c.requires tt (sym c.is_on.ensures ∙ c.if-not-is_on.false) c.if-records-ge-MOST_RECORDS.false).fits).1
+
+pub returns : goal.returns
+returns c = λ held.
+    start-0 _ _ _ _ _ held c.if-started.false _ c.start-got.ensures _ (none-full _ _ _ _ (c.highest_full-full.ensures _) c.if-full-ne0.false)
+    c.request_all.ensures
+    ∙ (behind-both (Start c.args.zone) _ _ _ _ c.requires tt (sym c.is_on.ensures ∙ c.if-not-is_on.false) c.if-records-ge-MOST_RECORDS.false).own _ _ held
