@@ -1,6 +1,6 @@
 // Whether two states are the same over the zones and channels of a site: what the fuller form of question 1 compares.
 
-#![tactic(auto)]
+#![tactic(auto, unfolding(journal::specs::Writing::same_local, journal::specs::Writing::same_zones, journal::specs::Writing::same_channel))]
 
 ghost use Rattle.std.specs.Prelude.{◌≡◌, ◌<◌, ◌≤◌, length};
 ghost use Rattle.rules.specs.Limits.{most_zones};
@@ -179,6 +179,7 @@ fn same_channels(
 
 // Whether a run has the state of another one, over the zones and channels of the other's site. Writer calls it for a
 // sound one, which has at most 8 zones.
+#[tactic(auto, unfolding(journal::specs::Writing::same_state))]
 pub fn same_state(a: Run, b: Run) -> bool
     requires { count_of b.head ≤ most_zones }
     ensures { result ≡ same_state a b }
