@@ -4,7 +4,7 @@
 #     make install PREFIX=/usr        builds and installs; DESTDIR=/some/folder stands before every path, for whoever makes packages
 #     make uninstall PREFIX=/usr      removes what that installed
 #
-# `rt staticlib` proves what it writes and all that this rests on, so the first time takes minutes.
+# `rt lib` proves what it writes and all that this rests on, so the first time takes minutes.
 PREFIX ?= /usr/local
 LIBDIR ?= $(PREFIX)/lib
 INCLUDEDIR ?= $(PREFIX)/include
@@ -18,7 +18,7 @@ out := target/lib
 headers := $(wildcard c/cut/*.h)
 calls := $(patsubst c/calls/%.c,$(out)/calls_%.o,$(wildcard c/calls/*.c))
 papers := docs/changes/versions.md docs/INTEGRATION.md docs/OPENING.md docs/PROGRAMS.md docs/RULES.md c/example.c c/desk.c c/fitter.c
-sources := crates.txt $(shell find crates -name '*.rt' -o -name '*.antt')
+sources := crates.txt $(shell find crates -path '*/out' -prune -o '(' -name '*.rt' -o -name '*.antt' ')' -print)
 version := $(shell sed -n 's/^.define CUT_VERSION "\(.*\)"/\1/p' c/cut/refusal.h)
 soname := libcut.so.$(firstword $(subst ., ,$(version)))
 shared := libcut.so.$(version)
@@ -31,10 +31,10 @@ all: $(out)/libcut.a $(out)/$(shared) $(out)/libcut.so $(out)/cut.pc
 # The proved code. Both archives hold one object, whose only global names are calls of the headers. They are made one after the other, since each
 # proves what it rests on.
 $(out)/proved.a: $(sources)
-	$(RT) staticlib zone_c
-	$(RT) staticlib site_c
+	cd crates/zone_exports && $(RT) lib --cpu x86-64
+	cd crates/site_exports && $(RT) lib --cpu x86-64
 	rm -rf $(out)/parts && mkdir -p $(out)/parts
-	cd $(out)/parts && $(AR) x ../../staticlib/libzone_c.a && $(AR) x ../../staticlib/libsite_c.a
+	cd $(out)/parts && $(AR) x ../../../crates/zone_exports/out/libzone_exports.a && $(AR) x ../../../crates/site_exports/out/libsite_exports.a
 	rm -f $@ && $(AR) rcsD $@ $(out)/parts/*.o && rm -r $(out)/parts
 
 # The calls that are inline in a program in C, for other languages. Each file is an object of its own, so that a linker takes the zone part without

@@ -20,7 +20,7 @@ import time
 sys.dont_write_bytecode = True  # no folder beside the scripts
 from speed import DATA, ENVIRONMENT, KEY, have_valgrind, load, placed, save, table
 
-PROVED = "target/bin/cut_recorder"
+PROVED = "crates/cut_recorder/out/cut_recorder"
 SECOND = "tests/second/target/release/record"
 CALLS = "tests/differential/target/release/calls"
 SITE = ["open", "send", "receive", "start", "write"]
@@ -171,9 +171,9 @@ def stack(folder):
 def sizes(folder):
     """The part of the document on sizes."""
     shared = os.path.realpath("target/lib/libcut.so")
-    code = [("`cut_recorder`", PROVED), ("`cut_page`", "target/bin/cut_page"), ("`cut_convert`", "target/bin/cut_convert"),
-            ("the zone part for C", "target/staticlib/libzone_c.a"),
-            ("the site engine, journal, converter, recording and page for C", "target/staticlib/libsite_c.a")]
+    code = [("`cut_recorder`", PROVED), ("`cut_page`", "crates/cut_page/out/cut_page"), ("`cut_convert`", "crates/cut_convert/out/cut_convert"),
+            ("the zone part for C", "crates/zone_exports/out/libzone_exports.a"),
+            ("the site engine, journal, converter, recording and page for C", "crates/site_exports/out/libsite_exports.a")]
     text = ("Bytes of code: " + ", ".join(f"{name} {size(path):,}" for name, path in code)
             + f". `libcut.a` has {os.path.getsize('target/lib/libcut.a'):,} bytes, `{os.path.basename(shared)}` {os.path.getsize(shared):,}. "
             + f"On 1,000 records `cut_recorder` uses at most {stack(folder):,} bytes of stack.")
