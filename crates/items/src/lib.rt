@@ -1,6 +1,6 @@
 // The items of a recording: the journal's records counted by channel, and the items of each channel written as words.
 
-#![tactic(auto)]
+#![tactic(auto, unfolding(crate::specs::InnerItems::is_sent, crate::specs::InnerItems::number_at, crate::specs::InnerItems::item_number))]
 
 ghost use Rattle.std.specs.Prelude.{◌≡◌, cond, ◌-◌, ◌*◌, ◌/◌, ◌<◌, ◌≤◌, length, get_or};
 ghost use Rattle.rules.specs.Limits.{most_records};
@@ -51,7 +51,7 @@ fn shown_for(shown: &[u16; ZONES], high: usize) -> u16
 
 // The records that are inside the events shown, counted by the high byte of their word: messages sent on the channel at index k stand
 // at k, receipts on it at 64 + k. Recorder calls it for a run that its journal replays to: at
-// most 1,000 records, each with its own-event ordinal. `Counted-of` (crates/items/proofs) says
+// most 1,000 records, each with its own-event ordinal. `counted_of` (crates/items/proofs) says
 // that these are the numbers that `write` requires.
 pub fn counted(words: &[u16], ordinals: &[u16], shown: [u16; ZONES]) -> [u16; HIGH_BYTES]
     requires { (length words.now ≤ most_records) × (length ordinals.now ≡ length words.now) }
