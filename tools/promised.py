@@ -1,16 +1,20 @@
 #!/usr/bin/env python3
 """Checks that every entry point has its promise in crates/promises; run by the gate, from any folder.
 
-The parts are the crates of crates.txt whose proofs a module of crates/promises imports, `use Rattle·CRATE.proofs as ALIAS`. The entry points
-are their public functions, those for C among them, in every file of src. Each has a theorem, at the start of a line and outside comments:
+The parts are the crates of crates.txt of which a module of crates/promises imports the proofs or the contracts by an alias: of
+Rattle.CRATE.proofs or Rattle.CRATE.specs.contracts, as in `use Rattle.CRATE.proofs as ALIAS`, or of a module below. The entry points are their
+public functions, in every file of src. Each has a theorem, at the start of a line and outside comments:
 
     NAME : Keeps ALIAS.FUNCTION.ended ALIAS.FUNCTION.Symbol.routine (λ LIFETIMES PARAMETERS ANSWER. FACT)
 
-The checker sees that it is true; by `Keeps` it then also says that the function asks nothing of its caller. It is an error if
+Its two aliases may differ, and each may be a whole path. The checker sees that the theorem is true; by `Keeps` it then also says that the
+function asks nothing of its caller. It is an error if
 - an entry point has no such theorem, or has a `requires`;
-- its FACT does not name the answer, or, of a parameter that is lent by `&mut`, what is left there: `now (PARAMETER .exit)`; or says that something
+- its FACT does not name the answer, or, of a parameter that is lent by `&mut`, what is left there: `PARAMETER.exit.now`; or says that something
   is itself;
 - another crate has a public function and INNER does not name it, or a function for C;
+- a static library, on which no crate can stand, has a public function that is not for C, has a `requires`, or is anything but the call of the
+  entry point of its own name with its parameters in their order;
 - INNER or INNER_FUNCTIONS name a crate or a function that has no need of it: it is not there, or it is promised;
 - a source or a module has a block comment, a part passes a function on by `pub use`, or a type holds a `&mut`: what is public, lent or
   promised could then not be read from the text so simply.
@@ -54,10 +58,16 @@ LITERAL = re.compile(r'"(?:\\.|[^"\\\n])*"|b\'(?:\\.[^\']*|[^\'\\])\'|//[^\n]*')
 FUNCTION = re.compile(r'\bpub\b\s*(?:\([^)]*\)\s*)?((?:(?:const|unsafe|extern|"")\s+)*)fn\s+(\w+)')
 SCOPE = re.compile(r"\b(?:impl\b(?:\s*<[^>]*>)?|mod)\s+(\w+)[^;{]*\{")
 TYPE = re.compile(r"\b(?:struct|enum|type)\s+(\w+)[^;{]*(?:\{[^}]*\}|;)")
-ANSWER = re.compile(r"\s*->.*?(?=\brequires\b|\bensures\b|\{)", re.S)
-CLAUSE = re.compile(r"\s*(\w+)\s*\{")
-IMPORT = re.compile(r"^use Rattle·(\w+)\.proofs as (\S+)$", re.M)
-NEEDED = {" : Keeps ": "use Rattle·promises·specs.specs.Promise.{Keeps}", " ≡ ": "use mathlib.Core.Path.{_≡_}"}
+ANSWER = re.compile(r"\s*->.*?(?=\brequires\b|\bensures\b|\bghost\b|\{)", re.S)
+CLAUSE = re.compile(r"\s*(\w+)\*?(?:\s+\w+:?)?\s*\{")
+IMPORT = re.compile(r"^use (Rattle\.(\w+)\.(?:proofs|specs\.contracts)(?:\.\S+)?) as (\S+)$", re.M)
+FUNCTIONS = re.compile(r"Rattle\.(\w+)\.(?:proofs|specs\.contracts)\.(\S+)")
+NAMES = re.compile(r"^use ([\w.]+)\.\{([^}]*)\}$", re.M)
+# What a sign of a promise must mean: its name, and the modules that have it.
+NEEDED = {
+    " : Keeps ": ("Keeps", {"Rattle.promises.specs.Promise"}),
+    " ≡ ": ("◌≡◌", {"mathlib.Core.Path", "Rattle.std.specs.Prelude", "Rattle.std.proofs.Common"}),
+}
 PROMISE = re.compile(r"(?:pub )?(\S+) : Keeps (\S+)\.ended (\S+)\.Symbol\.routine (\(λ ([^.()]*)\. (.*)\))")
 CLOSING = {"(": ")", "[": "]", "{": "}", "<": ">"}
 
@@ -99,7 +109,7 @@ def outside(text, sign):
 
 
 def signature(text, at):
-    """Of the function whose name ends at this place: its parameters, whether it answers something, and the names of its clauses."""
+    """Of the function whose name ends at this place: its parameters, whether it answers something, the names of its clauses, and its body."""
     at = closed(text, at) if text[at] == "<" else at
     end = closed(text, at)
     parameters = split(text[at + 1 : end - 1])
@@ -108,7 +118,8 @@ def signature(text, at):
     while clause := CLAUSE.match(text, at):
         clauses.append(clause[1])
         at = closed(text, clause.end() - 1)
-    return parameters, bool(answer), clauses
+    body = re.compile(r"\s*\{").match(text, at)
+    return parameters, bool(answer), clauses, text[body.end() : closed(text, body.end() - 1) - 1].strip() if body else ""
 
 
 def public(crate, wrong):
@@ -135,6 +146,13 @@ def public(crate, wrong):
     return found
 
 
+def named(path, aliases):
+    """The function that a path of the prover names, `crate::function` or `crate::Type::method`; an empty text where it names none."""
+    head, _, rest = path.partition(".")
+    found = FUNCTIONS.fullmatch(f"{aliases.get(head, head)}.{rest}")
+    return "::".join([found[1], *re.sub("[«»]", "", found[2]).split(".")]) if found else ""
+
+
 def promised(wrong):
     """The parts, and the promises: of each function its theorem's name, what the λ binds and the fact."""
     parts, found = set(), {}
@@ -143,16 +161,17 @@ def promised(wrong):
         if "{-" in text:
             wrong.append(f"{where}: a block comment, which is not told from code here: write line comments")
         text = re.sub(r" *--.*", "", text)
-        crates = {alias: crate for crate, alias in IMPORT.findall(text)}
-        parts.update(crates.values())
-        for sign, line in NEEDED.items():
-            if crates and sign in text and line not in text.split("\n"):
-                wrong.append(f"{where}: no line `{line}`")
+        aliases = {alias: module for module, _, alias in IMPORT.findall(text)}
+        parts.update(crate for _, crate, _ in IMPORT.findall(text))
+        brought = {(name.strip(), module) for module, names in NAMES.findall(text) for name in names.split(",")}
+        for sign, (name, modules) in NEEDED.items():
+            if aliases and sign in text and not any((name, module) in brought for module in modules):
+                wrong.append(f"{where}: no `use` line brings {name} from {' or '.join(sorted(modules))}")
         for line in filter(None, map(PROMISE.fullmatch, re.sub(r"\n +", " ", text).split("\n"))):
             name, ended, routine, whole, binders, fact = line.groups()
-            alias, *rest = re.sub("[«»]", "", ended).split(".")
-            if ended == routine and alias in crates and closed(whole, 0) == len(whole):
-                found["::".join([crates[alias], *rest])] = (f"{where}: {name}", binders.split(), fact)
+            function = named(ended, aliases)
+            if function and function == named(routine, aliases) and closed(whole, 0) == len(whole):
+                found[function] = (f"{where}: {name}", binders.split(), fact)
     return parts, found
 
 
@@ -169,8 +188,19 @@ def unnamed(function, parameters, answers, promise):
         if len(set(sides)) < len(sides):
             yield f"{where} says of {function} that {sides[0]} is itself"
     for name, parameter in zip(names[1:], parameters):
-        if LENT.search(parameter) and f"now ({name} .exit)" not in fact:
-            yield f"{where} does not name what {function} leaves of `{parameter}`: now ({name} .exit)"
+        if LENT.search(parameter) and not re.search(rf"(?<![\w.'-]){re.escape(name)}\.exit\.now(?![\w'-])", fact):
+            yield f"{where} does not name what {function} leaves of `{parameter}`: {name}.exit.now"
+
+
+def uncalled(functions, points):
+    """The public functions of static libraries that are not just the call of an entry point, and those that ask something of their caller."""
+    for name, (for_c, parameters, _, clauses, body) in functions.items():
+        call = re.fullmatch(r"([\w:]+)\((.*)\)", body, re.S)
+        passed = [re.sub(r"^mut\s+|\s*:.*", "", p, flags=re.S) for p in parameters]
+        if not for_c or "requires" in clauses:
+            yield f"{name} is in a static library, and is not for C or has a `requires`"
+        elif not call or call[1] not in points or call[1].split("::")[-1] != name.split("::")[-1] or split(call[2]) != passed:
+            yield f"{name} is not just the call of the entry point of its name"
 
 
 def misnamed(functions, parts, points, promises):
@@ -191,14 +221,17 @@ def misnamed(functions, parts, points, promises):
 
 def main():
     wrong = []
-    lines = (ROOT / "crates.txt").read_text(encoding="utf-8").splitlines()
-    crates = [line.split(":")[0].strip() for line in lines if line.split("#")[0].strip()]
+    lines = [line.split("#")[0] for line in (ROOT / "crates.txt").read_text(encoding="utf-8").splitlines()]
+    heads = [line.split(":")[0].split() for line in lines if line.strip()]
+    crates = [crate for crate, *kind in heads if "staticlib" not in kind]
+    libraries = {name: f for crate, *kind in heads if "staticlib" in kind for name, f in public(crate, wrong).items()}
     parts, promises = promised(wrong)
     functions = {crate: public(crate, wrong) for crate in crates}
     points = {name: f for crate in crates if crate in parts for name, f in functions[crate].items()}
     wrong += misnamed(functions, parts, points, promises)
+    wrong += uncalled(libraries, [p for p in points if p not in INNER_FUNCTIONS])
     for name in [p for p in points if p not in INNER_FUNCTIONS]:
-        _, parameters, answers, clauses = points[name]
+        _, parameters, answers, clauses, _ = points[name]
         if "requires" in clauses:
             wrong.append(f"{name} has a `requires`")
         wrong += unnamed(name, parameters, answers, promises[name]) if name in promises else [f"{name} has no promise"]

@@ -138,7 +138,7 @@ def reading(rows):
 
 def crates():
     """By crate: the crates of crates.txt that it rests on."""
-    uses = dict(re.findall(r"^(\w+): *(.*)$", (ROOT / "crates.txt").read_text(encoding="utf-8"), re.M))
+    uses = dict(re.findall(r"^(\w+)(?: [^:\n]*)?: *(.*)$", (ROOT / "crates.txt").read_text(encoding="utf-8"), re.M))
     return {c: [d for d in ds.split() if d in uses] for c, ds in uses.items()}
 
 
@@ -169,7 +169,7 @@ def definitions(full, inner):
     for path in sorted((every - full - inner) | (full & inner)):
         yield f"{path.relative_to(ROOT)} is not in just one of the parts full and inner"
     for path in sorted(full):
-        for crate, module in re.findall(r"^use Rattle·(\w+?)(?:·specs)?\.specs\.(\w+)", path.read_text(encoding="utf-8"), re.M):
+        for crate, module in re.findall(r"^use Rattle\.(\w+)\.specs\.(\w+)", path.read_text(encoding="utf-8"), re.M):
             if ROOT / "crates" / crate / "specs" / f"{module}.antt" in inner:
                 yield f"{path.relative_to(ROOT)} uses {crate}'s {module}, which only serves proofs"
 

@@ -21,7 +21,9 @@ TRACE = ROOT / "docs" / "TRACE.md"
 HEADING = "Shut out"
 QUOTED = re.compile(r"`([^`]*)`")
 EDIT = re.compile(r"[a-z_]+/[a-z0-9_]+")
-PATH = re.compile(r"crates(?:/[\w.·«»-]*\w»?)+")
+PATH = re.compile(r"crates(?:/[\w.+«»-]*\w»?)+")
+# The folders of a crate that have text of ours: what rt makes stands beside them.
+PARTS = ("src", "specs", "proofs")
 ANTT = re.compile(r"^ *(?:(?:abbrev|unfoldable|pub|record|data) )*«?([^\s(){}:;,.=«»]+)»?(?: [^=\n]*)?: ", re.M)
 RATTLE = re.compile(r"\b(?:fn|struct|enum|const) (\w+)|^ +(?:pub )?(\w+)[:(,]", re.M)
 
@@ -36,12 +38,13 @@ def declared():
     names, types = {}, {}
     for folder in (ROOT / "crates").iterdir():
         found = names[folder.name] = {folder.name}
-        for path in folder.rglob("*.antt"):
-            found.update(ANTT.findall(path.read_text(encoding="utf-8")))
-        for path in folder.rglob("*.rt"):
+        for path in (p for part in PARTS for p in (folder / part).rglob("*.*t")):
             text = path.read_text(encoding="utf-8")
-            found.update(a or b for a, b in RATTLE.findall(text))
-            types.update((t, folder.name) for t in re.findall(r"^impl (\w+)", text, re.M))
+            if path.suffix == ".antt":
+                found.update(ANTT.findall(text))
+            elif path.suffix == ".rt":
+                found.update(a or b for a, b in RATTLE.findall(text))
+                types.update((t, folder.name) for t in re.findall(r"^impl (\w+)", text, re.M))
     return names, types
 
 
@@ -75,7 +78,9 @@ def cut_edits():
                 yield f"{at}: rt passes over this line"
             elif line.startswith("file: "):
                 file = path.parent.parent / line[len("file: "):]
-                texts.setdefault(file, file.read_text(encoding="utf-8"))
+                if not file.is_file():
+                    yield f"{at}: there is no {file.relative_to(ROOT)}"
+                texts.setdefault(file, file.read_text(encoding="utf-8") if file.is_file() else "")
             elif line.startswith("old: ") and texts[file].count(line[len("old: "):]) != 1:
                 yield f"{at}: this text does not stand just once in {file.relative_to(ROOT)}"
             elif line.startswith("new:"):
