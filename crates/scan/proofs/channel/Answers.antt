@@ -1,9 +1,7 @@
 -- `scan::channel` meets its contract, by what the items before the next one add up to.
-use Rattle.std.proofs.Common.{◌≡◌, ◌≤◌, ◌<◌, ◌+◌, ◌-◌, ◌*◌, ◌^◌, ◌%◌, ◌&&◌, ℕ, List, Bool, true, false, length, take, drop, get_or, refl, sym, ◌∙◌, ap, ap₂, subst, arith, min, map}
+use Rattle.std.proofs.Common.{◌≡◌, ◌<◌, arith, min}
 use lib.Dec.{leb}
-use Rattle.channel.specs.Words.{item_of}
-use Rattle.channel.specs.Channels.{channels_as, words_on, len_of}
-use Rattle.run.specs.State.{sets_within, cars_of}
+use Rattle.channel.specs.Channels.{channels_as, len_of}
 use Rattle.scan.proofs.Laws.{sound-item, cars-item, sound-items, cars-items}
 use Rattle.scan.proofs.channel.Goals as goal
 

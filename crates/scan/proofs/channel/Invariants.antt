@@ -1,16 +1,13 @@
 -- `scan::channel` meets its contract, by what the items before the next one add up to.
-use mathlib.Core.Path.{◌≡◌, refl, sym}
-use mathlib.Core.Bool.{◌&&◌, and-true}
+use mathlib.Core.Path.{◌≡◌}
+use mathlib.Core.Bool.{◌&&◌}
 use mathlib.Core.List.{map}
-use Prim.Native.Nat.{◌-◌, ◌*◌, ◌<◌, ◌≤◌, min}
-use native.Mathlib.Omega.{arith}
-use borrow.Author.Rules.{rules}
+use Prim.Native.Nat.{◌-◌, ◌*◌, ◌≤◌}
 use lib.Dec.{leb}
 use lib.ListN.{take}
 use Rattle.channel.specs.Words.{item_of}
-use Rattle.channel.specs.Channels.{channels_as, words_on, len_of}
+use Rattle.channel.specs.Channels.{channels_as, words_on}
 use Rattle.run.specs.State.{sets_within, cars_of}
-use Rattle.scan.proofs.Laws.{sound-item, cars-item, sound-items, cars-items}
 use Rattle.scan.proofs.channel.Given as goal
 
 abbrev pub invariant-loop-p : goal.invariant-loop-p

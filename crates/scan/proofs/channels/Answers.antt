@@ -1,9 +1,6 @@
 -- `scan::channels` meets its contract, by what the zones before the next one have on their channels.
-use Rattle.std.proofs.Common.{◌≡◌, ◌≤◌, ◌<◌, ◌+◌, ◌-◌, ◌*◌, ◌^◌, ◌%◌, ◌&&◌, ℕ, List, Bool, true, false, length, take, drop, get_or, refl, sym, ◌∙◌, ap, ap₂, subst, arith, min, map}
-use Rattle.rules.specs.Below.{all_below, sum_below}
-use Rattle.rules.proofs.Tests.{yes}
+use Rattle.std.proofs.Common.{◌≡◌, ◌*◌, sym, ◌∙◌, arith}
 use Rattle.channel.specs.Channels.{channels_as}
-use Rattle.channel.specs.declared.Channels.{Channels}
 use Rattle.run.specs.State.{channels_sound, cars_on_channels}
 use Rattle.run.proofs.BelowLaws.{all-to, sum_to}
 use Rattle.run.proofs.IndexLaws.{all-zone, all_none, sum-zone, sum-none, none_from}
@@ -20,13 +17,13 @@ loop-from-preserved c =
     let l = channels_as c.args.items.now c.args.lens.now in
     let e = c.all_empty.ensures in
     elim c.if-not-all_empty.branch [
-      then-not-all_empty w ↦ (
+      | then-not-all_empty w ↦ (
         (omega arith, b.invariant.0.1),
         w.sound-is ∙ all-zone (sound_at t l) b.from _ _ b.invariant.1 w.channels_from-one.ensures.0,
         w.cars-is ∙ sum-zone (cars_at t l) b.from _ _ b.invariant.2 w.channels_from-one.ensures.1,
         omega (arith, w.cars-is, w.channels_from-one.ensures.2, b.invariant.3),
       )
-    | else-not-all_empty w ↦ (
+      | else-not-all_empty w ↦ (
         (omega arith, b.invariant.0.1),
         w.sound-is
             ∙ all_none (sound_at t l) b.from _ b.invariant.1 (λ j h. empty-sound t l _ (none_from l.lens b.from (sym e ∙ w.if-not-all_empty.false) j h)),

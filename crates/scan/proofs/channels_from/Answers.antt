@@ -1,8 +1,6 @@
 -- `scan::channels_from` meets its contract, by what the indices before the next one add up to.
-use Rattle.std.proofs.Common.{◌≡◌, ◌≤◌, ◌<◌, ◌+◌, ◌-◌, ◌*◌, ◌^◌, ◌%◌, ◌&&◌, ℕ, List, Bool, true, false, length, take, drop, get_or, refl, sym, ◌∙◌, ap, ap₂, subst, arith, min, map}
-use Rattle.rules.specs.Below.{all_below, sum_below}
+use Rattle.std.proofs.Common.{◌≡◌, sym, ◌∙◌, arith}
 use Rattle.channel.specs.Channels.{channels_as, channel_index}
-use Rattle.channel.specs.declared.Channels.{Channels}
 use Rattle.run.proofs.BelowLaws.{all-to, sum_to}
 use Rattle.run.proofs.IndexLaws.{all-index, all-passed, sum-index, sum-passed}
 use Rattle.scan.specs.InnerAt.{sound_at, cars_at}
@@ -18,13 +16,13 @@ loop-to-preserved c =
     let l = channels_as a.items.now a.lens.now in
     let e = c.channel_index-k.ensures.0 in
     elim c.if-lens-k-ne0.branch [
-      then-lens-k-ne0 w ↦ (
+      | then-lens-k-ne0 w ↦ (
         (omega arith, b.invariant.0.1),
         w.sound-is ∙ all-index (sound_at t l) a.from _ b.to _ e _ b.invariant.1 w.channel_at-one.ensures.0,
         w.cars-is ∙ sum-index (cars_at t l) a.from _ b.to _ e _ b.invariant.2 w.channel_at-one.ensures.1,
         omega (arith, w.cars-is, w.channel_at-one.ensures.2, b.invariant.3),
       )
-    | else-lens-k-ne0 w ↦ (
+      | else-lens-k-ne0 w ↦ (
         (omega arith, b.invariant.0.1),
         w.sound-is ∙ all-passed (sound_at t l) a.from _ b.to _ e b.invariant.1 (empty-sound t l _ w.if-lens-k-ne0.false),
         w.cars-is ∙ sum-passed (cars_at t l) a.from _ b.to _ e b.invariant.2 (empty-cars t l _ w.if-lens-k-ne0.false),

@@ -1,16 +1,9 @@
 -- `scan::channels_from` meets its contract, by what the indices before the next one add up to.
-use mathlib.Core.Path.{◌≡◌, refl, sym, ◌∙◌}
-use mathlib.Core.Logic.{⊎_elim}
+use mathlib.Core.Path.{◌≡◌}
 use Prim.Native.Nat.{◌-◌, ◌*◌, ◌≤◌}
-use native.Mathlib.Omega.{arith}
-use borrow.Author.Rules.{rules}
 use Rattle.rules.specs.Below.{all_below, sum_below}
 use Rattle.channel.specs.Channels.{channels_as, channel_index}
-use Rattle.channel.specs.declared.Channels.{Channels}
-use Rattle.run.proofs.BelowLaws.{all-to, sum_to}
-use Rattle.run.proofs.IndexLaws.{all-index, all-passed, sum-index, sum-passed}
 use Rattle.scan.specs.InnerAt.{sound_at, cars_at}
-use Rattle.scan.proofs.Laws.{empty-sound, empty-cars, sound-to, cars-to}
 use Rattle.scan.proofs.channels_from.Given as goal
 
 abbrev pub invariant-loop-to : goal.invariant-loop-to

@@ -1,11 +1,10 @@
 -- `scan::examined` meets its contract.
-use Rattle.std.proofs.Common.{◌≡◌, ◌≤◌, ◌<◌, ◌+◌, ◌-◌, ◌*◌, ◌^◌, ◌%◌, ◌&&◌, ℕ, List, Bool, true, false, length, take, drop, get_or, refl, sym, ◌∙◌, ap, ap₂, subst, arith, min, map}
+use Rattle.std.proofs.Common.{◌≡◌, ◌+◌, ◌&&◌, ℕ, Bool, true, false, sym, ◌∙◌, ap₂}
 use mathlib.Core.Bool.{true≢false}
 use lib.Dec.{leb}
 use Rattle.rules.specs.Edition.{is_edition}
 use Rattle.rules.specs.Questions.{is_count}
 use Rattle.rules.proofs.QuestionLaws.{count-high}
-use Rattle.rules.proofs.Tests.{no, yes}
 use Rattle.channel.specs.declared.Channels.{Channels}
 use Rattle.run.specs.State.{terms_of, edition_of, count_of, locals_sound, channels_sound, stocks, cars_on_channels, parts_sound}
 use Rattle.run.specs.declared.Head.{Head}

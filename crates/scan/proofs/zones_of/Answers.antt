@@ -1,9 +1,9 @@
 -- `scan::zones_of` meets its contract, by what the zones before the next one add up to.
-use Rattle.std.proofs.Common.{◌≡◌, ◌≤◌, ◌<◌, ◌+◌, ◌-◌, ◌*◌, ◌^◌, ◌%◌, ◌&&◌, ℕ, List, Bool, true, false, length, take, drop, get_or, refl, sym, ◌∙◌, ap, ap₂, subst, arith, min, map}
+use Rattle.std.proofs.Common.{◌≡◌, List, get_or, ◌∙◌, ap, arith}
 use Rattle.rules.specs.Below.{all_below, sum_below}
 use Rattle.rules.specs.declared.Local.{Local}
 use Rattle.run.specs.State.{count_of, no_local, zone_at, local_sound, locals_sound, stocks}
-use Rattle.run.proofs.BelowLaws.{all-to, all-next, sum_to, sum-next}
+use Rattle.run.proofs.BelowLaws.{all-to, sum_to}
 use Rattle.scan.proofs.zones_of.Goals as goal
 
 pub returns : goal.returns

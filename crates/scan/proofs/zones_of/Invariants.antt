@@ -1,14 +1,9 @@
 -- `scan::zones_of` meets its contract, by what the zones before the next one add up to.
-use mathlib.Core.Path.{◌≡◌, refl, ◌∙◌, ap}
-use mathlib.Core.List.{List}
+use mathlib.Core.Path.{◌≡◌}
 use Prim.Native.Nat.{◌-◌, ◌*◌, ◌≤◌}
-use native.Mathlib.Omega.{arith}
 use lib.ListN.{get_or}
-use borrow.Author.Rules.{rules}
 use Rattle.rules.specs.Below.{all_below, sum_below}
-use Rattle.rules.specs.declared.Local.{Local}
-use Rattle.run.specs.State.{count_of, no_local, zone_at, local_sound, locals_sound, stocks}
-use Rattle.run.proofs.BelowLaws.{all-to, all-next, sum_to, sum-next}
+use Rattle.run.specs.State.{no_local, local_sound}
 use Rattle.scan.proofs.zones_of.Given as goal
 
 abbrev pub invariant-loop-i : goal.invariant-loop-i

@@ -1,12 +1,8 @@
 -- `steps::gate` meets its contract: 15, 5, 6, then 21 or 7, then the cars through the gate.
-use Rattle.std.proofs.Common.{◌≡◌, ◌≤◌, ◌<◌, ◌+◌, ◌-◌, ◌*◌, ◌^◌, ◌%◌, ◌/◌, ◌++◌, ◌∷◌, [], ◌&&◌, ◌⊎◌, cond, not, ℕ, List, Bool, true, false, length, take, drop, get_or, refl, sym, ◌∙◌, ap, ap₂, subst, arith, rules, min, map, add-one, add-zero, inl, inr}
-use Rattle.rules.specs.Edition.{has_gates}
-use Rattle.rules.specs.Questions.{is_on}
-use Rattle.rules.proofs.Tests.{no, yes}
-use Rattle.run.specs.declared.SiteCall.{SiteCall}
+use Rattle.std.proofs.Common.{true, sym, ◌∙◌}
 use Rattle.run.specs.declared.SiteCall.TheVariants.{Gate}
 use Rattle.run.proofs.Outcome.{zone-sited}
-use Rattle.steps.proofs.Laws.{weighed-few, weighed-stock, gate-15, effect-5, effect-6, Behind, behind-both, gate-refused, gate-0, gate-fits}
+use Rattle.steps.proofs.Laws.{weighed-few, weighed-stock, gate-15, effect-5, effect-6, behind-both, gate-refused, gate-0, gate-fits}
 use Rattle.steps.proofs.gate.Goals as goal
 
 pub returns-then-not-has_gates : goal.returns-then-not-has_gates

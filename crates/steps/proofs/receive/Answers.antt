@@ -1,14 +1,11 @@
 -- `steps::receive` meets its contract: 5, 6, 9, 10, then the item off its channel and the requests.
-use Rattle.std.proofs.Common.{◌≡◌, ◌≤◌, ◌<◌, ◌+◌, ◌-◌, ◌*◌, ◌^◌, ◌%◌, ◌/◌, ◌++◌, ◌∷◌, [], ◌&&◌, ◌⊎◌, cond, not, ℕ, List, Bool, true, false, length, take, drop, get_or, refl, sym, ◌∙◌, ap, ap₂, subst, arith, rules, min, map, add-one, add-zero, inl, inr}
+use Rattle.std.proofs.Common.{◌<◌, ℕ, sym, ◌∙◌, subst, arith}
 use mathlib.Core.Logic.{◌≢◌}
-use Rattle.rules.proofs.Tests.{no, yes}
 use Rattle.channel.specs.Channels.{channels_as, len_of}
 use Rattle.channel.proofs.Search.{some-full, none-full}
-use Rattle.run.specs.Calls.{is_pair}
-use Rattle.run.specs.declared.SiteCall.{SiteCall}
 use Rattle.run.specs.declared.SiteCall.TheVariants.{Receive}
 use Rattle.run.proofs.Outcome.{pair, pair-low}
-use Rattle.steps.proofs.Laws.{effect-5, effect-6, Behind, behind-both, receive-9, receive-10, receive-0, receive-quiet}
+use Rattle.steps.proofs.Laws.{effect-5, effect-6, behind-both, receive-9, receive-10, receive-0, receive-quiet}
 use Rattle.steps.proofs.receive.Goals as goal
 
 pos : (n : ℕ) → n ≢ 0 → 0 < n

@@ -1,12 +1,8 @@
 -- `steps::send` meets its contract: 5, 6, 7, 8, then the message on its channel.
-use Rattle.std.proofs.Common.{◌≡◌, ◌≤◌, ◌<◌, ◌+◌, ◌-◌, ◌*◌, ◌^◌, ◌%◌, ◌/◌, ◌++◌, ◌∷◌, [], ◌&&◌, ◌⊎◌, cond, not, ℕ, List, Bool, true, false, length, take, drop, get_or, refl, sym, ◌∙◌, ap, ap₂, subst, arith, rules, min, map, add-one, add-zero, inl, inr}
-use Rattle.rules.proofs.Tests.{no, yes}
-use Rattle.channel.specs.Channels.{channels_as}
-use Rattle.run.specs.Calls.{is_pair}
-use Rattle.run.specs.declared.SiteCall.{SiteCall}
+use Rattle.std.proofs.Common.{sym, ◌∙◌}
 use Rattle.run.specs.declared.SiteCall.TheVariants.{Send}
 use Rattle.run.proofs.Outcome.{pair, pair-low}
-use Rattle.steps.proofs.Laws.{effect-5, effect-6, Behind, behind-both, send-7, send-8, send-0}
+use Rattle.steps.proofs.Laws.{effect-5, effect-6, behind-both, send-7, send-8, send-0}
 use Rattle.steps.proofs.send.Goals as goal
 
 pub returns-then-not-is_pair : goal.returns-then-not-is_pair

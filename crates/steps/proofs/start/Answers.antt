@@ -1,13 +1,9 @@
 -- `steps::start` meets its contract: 5, 6, 11, 10, then the requests.
-use Rattle.std.proofs.Common.{◌≡◌, ◌≤◌, ◌<◌, ◌+◌, ◌-◌, ◌*◌, ◌^◌, ◌%◌, ◌/◌, ◌++◌, ◌∷◌, [], ◌&&◌, ◌⊎◌, cond, not, ℕ, List, Bool, true, false, length, take, drop, get_or, refl, sym, ◌∙◌, ap, ap₂, subst, arith, rules, min, map, add-one, add-zero, inl, inr}
-use Rattle.rules.specs.Questions.{is_on}
-use Rattle.rules.proofs.Tests.{no, yes}
-use Rattle.channel.specs.Channels.{channels_as}
+use Rattle.std.proofs.Common.{sym, ◌∙◌}
 use Rattle.channel.proofs.Search.{some-full, none-full}
-use Rattle.run.specs.declared.SiteCall.{SiteCall}
 use Rattle.run.specs.declared.SiteCall.TheVariants.{Start}
 use Rattle.run.proofs.Outcome.{zone-sited}
-use Rattle.steps.proofs.Laws.{effect-5, effect-6, Behind, behind-both, start-11, start-10, start-0}
+use Rattle.steps.proofs.Laws.{effect-5, effect-6, behind-both, start-11, start-10, start-0}
 use Rattle.steps.proofs.start.Goals as goal
 
 pub returns-then-not-is_on : goal.returns-then-not-is_on

@@ -1,5 +1,5 @@
 -- `steps::take` meets its contract: a message or a request, by the word.
-use Rattle.std.proofs.Common.{◌≡◌, ◌≤◌, ◌<◌, ◌+◌, ◌-◌, ◌*◌, ◌^◌, ◌%◌, ◌/◌, ◌++◌, ◌∷◌, [], ◌&&◌, ◌⊎◌, cond, not, ℕ, List, Bool, true, false, length, take, drop, get_or, refl, sym, ◌∙◌, ap, ap₂, subst, arith, rules, min, map, add-one, add-zero, inl, inr}
+use Rattle.std.proofs.Common.{◌≡◌, ◌<◌, ◌-◌, ◌%◌, arith}
 use borrow.Author.Tests.{lt-ltb, le-ltb}
 use Rattle.channel.specs.Words.{item_of}
 use Rattle.steps.proofs.take.Goals as goal
