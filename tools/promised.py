@@ -1,27 +1,33 @@
 #!/usr/bin/env python3
 """Checks that every entry point has its promise in crates/promises; run by the gate, from any folder.
 
-The parts are the crates of crates.txt of which a module of crates/promises imports the proofs or the contracts by an alias: of
-Rattle.CRATE.proofs or Rattle.CRATE.specs.contracts, as in `use Rattle.CRATE.proofs as ALIAS`, or of a module below. The entry points are their
-public functions, in every file of src. Each has a theorem, at the start of a line and outside comments:
+The parts are the crates of crates.txt whose proofs a module of crates/promises imports. It names them, and their contracts, by two lines:
 
-    NAME : Keeps ALIAS.FUNCTION.ended ALIAS.FUNCTION.Symbol.routine (λ LIFETIMES PARAMETERS ANSWER. FACT)
+    use Rattle.CRATE.specs.contracts as CONTRACTS
+    use Rattle.CRATE.proofs as PROOFS
 
-Its two aliases may differ, and each may be a whole path. The checker sees that the theorem is true; by `Keeps` it then also says that the
-function asks nothing of its caller. It is an error if
+The entry points are their public functions, in every file of src. Each has a theorem, at the start of a line and outside comments; what follows
+may stand on further lines, which are indented:
+
+    NAME : Keeps CONTRACTS.FUNCTION.ended PROOFS.FUNCTION.Symbol.name PROOFS.FUNCTION.Symbol.code (λ LIFETIMES PARAMETERS ANSWER. FACT)
+
+The checker sees that it is true; by `Keeps` it then also says that the function asks nothing of its caller. The functions for C are exports: each
+stands in a static library and does what the entry point of its name does. It is an error if
 - an entry point has no such theorem, or has a `requires`;
 - its FACT does not name the answer, or, of a parameter that is lent by `&mut`, what is left there: `PARAMETER.exit.now`; or says that something
   is itself;
-- another crate has a public function and INNER does not name it, or a function for C;
-- a static library, on which no crate can stand, has a public function that is not for C, has a `requires`, or is anything but the call of the
-  entry point of its own name with its parameters in their order;
+- another crate has a public function and INNER does not name it;
 - INNER or INNER_FUNCTIONS name a crate or a function that has no need of it: it is not there, or it is promised;
+- a function for C stands in no static library; a static library has anything but imports and exports; its exports are not of one part, or not all
+  that is promised of it; an export is not one call of the entry point of its name, or its parameters, its answer and its clauses are not, word by
+  word, that function's; or it imports a name from elsewhere than that part does, so that these words could mean something else;
 - a source or a module has a block comment, a part passes a function on by `pub use`, or a type holds a `&mut`: what is public, lent or
   promised could then not be read from the text so simply.
 """
 import pathlib
 import re
 import sys
+from typing import NamedTuple
 
 ROOT = pathlib.Path(__file__).resolve().parent.parent
 MODULES = ROOT / "crates" / "promises" / "proofs"
@@ -55,21 +61,35 @@ INNER_FUNCTIONS = {
 
 LENT = re.compile(r"&\s*(?:'\w+\s+)?mut\b")
 LITERAL = re.compile(r'"(?:\\.|[^"\\\n])*"|b\'(?:\\.[^\']*|[^\'\\])\'|//[^\n]*')
-FUNCTION = re.compile(r'\bpub\b\s*(?:\([^)]*\)\s*)?((?:(?:const|unsafe|extern|"")\s+)*)fn\s+(\w+)')
+FUNCTION = re.compile(r'\bpub\b\s*(?:\([^)]*\)\s*)?((?:(?:const|unsafe|extern|"\w*")\s+)*)fn\s+(\w+)')
 SCOPE = re.compile(r"\b(?:impl\b(?:\s*<[^>]*>)?|mod)\s+(\w+)[^;{]*\{")
 TYPE = re.compile(r"\b(?:struct|enum|type)\s+(\w+)[^;{]*(?:\{[^}]*\}|;)")
 ANSWER = re.compile(r"\s*->.*?(?=\brequires\b|\bensures\b|\bghost\b|\{)", re.S)
 CLAUSE = re.compile(r"\s*(\w+)\*?(?:\s+\w+:?)?\s*\{")
-IMPORT = re.compile(r"^use (Rattle\.(\w+)\.(?:proofs|specs\.contracts)(?:\.\S+)?) as (\S+)$", re.M)
-FUNCTIONS = re.compile(r"Rattle\.(\w+)\.(?:proofs|specs\.contracts)\.(\S+)")
+USE = re.compile(r"(?<!\S)((?:ghost\s+)?use)\s+([^;]*);")
+TACTICS = re.compile(r"#!?\[tactic\([^\]]*\)\]")
+EXPORT = f'#[unsafe(no_mangle)] pub extern "{b"C".hex()}" fn '
+IMPORT = re.compile(r"^use Rattle\.(\w+)\.(specs\.contracts|proofs) as (\S+)$", re.M)
 NAMES = re.compile(r"^use ([\w.]+)\.\{([^}]*)\}$", re.M)
 # What a sign of a promise must mean: its name, and the modules that have it.
 NEEDED = {
     " : Keeps ": ("Keeps", {"Rattle.promises.specs.Promise"}),
     " ≡ ": ("◌≡◌", {"mathlib.Core.Path", "Rattle.std.specs.Prelude", "Rattle.std.proofs.Common"}),
 }
-PROMISE = re.compile(r"(?:pub )?(\S+) : Keeps (\S+)\.ended (\S+)\.Symbol\.routine (\(λ ([^.()]*)\. (.*)\))")
+PROMISE = re.compile(
+    r"(?:pub )?(\S+) : Keeps ([^\s.]+)\.(\S+)\.ended ([^\s.]+)\.\3\.Symbol\.name \4\.\3\.Symbol\.code (\(λ ([^.()]*)\. (.*)\))"
+)
 CLOSING = {"(": ")", "[": "]", "{": "}", "<": ">"}
+
+
+class Function(NamedTuple):
+    """A public function, by its text."""
+
+    for_c: bool
+    parameters: list
+    answers: bool
+    clauses: list  # their names
+    head: str  # from the parameters to the clauses
 
 
 def closed(text, at):
@@ -108,9 +128,9 @@ def outside(text, sign):
     return parts
 
 
-def signature(text, at):
-    """Of the function whose name ends at this place: its parameters, whether it answers something, the names of its clauses, and its body."""
-    at = closed(text, at) if text[at] == "<" else at
+def signature(for_c, text, begin):
+    """The function whose name ends at this place."""
+    at = closed(text, begin) if text[begin] == "<" else begin
     end = closed(text, at)
     parameters = split(text[at + 1 : end - 1])
     answer = ANSWER.match(text, end)
@@ -118,16 +138,20 @@ def signature(text, at):
     while clause := CLAUSE.match(text, at):
         clauses.append(clause[1])
         at = closed(text, clause.end() - 1)
-    body = re.compile(r"\s*\{").match(text, at)
-    return parameters, bool(answer), clauses, text[body.end() : closed(text, body.end() - 1) - 1].strip() if body else ""
+    return Function(for_c, parameters, bool(answer), clauses, text[begin:at])
+
+
+def sources(crate):
+    """The sources of a crate: of each its file, and its text without comments, in which a literal is one word."""
+    for path in sorted((ROOT / "crates" / crate / "src").rglob("*.rt")):
+        text = path.read_text(encoding="utf-8")
+        yield path, LITERAL.sub(lambda m: "" if m[0].startswith("//") else f'"{m[0].strip(chr(34)).encode().hex()}"', text)
 
 
 def public(crate, wrong):
-    """The public functions of a crate: of each its path, whether it is for C, and its signature."""
+    """The public functions of a crate, by their paths."""
     found = {}
-    src = ROOT / "crates" / crate / "src"
-    for path in sorted(src.rglob("*.rt")):
-        text = LITERAL.sub(lambda m: "" if m[0].startswith("//") else '""', path.read_text(encoding="utf-8"))
+    for path, text in sources(crate):
         if "/*" in text:
             wrong.append(f"{path.relative_to(ROOT)}: a block comment, which is not told from code here: write line comments")
         for item in TYPE.finditer(text):
@@ -136,21 +160,58 @@ def public(crate, wrong):
         if re.search(r"\bpub\b\s*(?:\([^)]*\)\s*)?use\b", text):
             wrong.append(f"{path.relative_to(ROOT)}: a `pub use`, which could pass on a function without a promise")
         scopes = [(m.start(), closed(text, m.end() - 1), m[1]) for m in SCOPE.finditer(text)]
-        file = path.relative_to(src).with_suffix("").parts
+        file = path.relative_to(ROOT / "crates" / crate / "src").with_suffix("").parts
         file = () if file in (("lib",), ("main",)) else file
         for m in FUNCTION.finditer(text):
             name = "::".join([crate, *file, *(s for a, b, s in scopes if a < m.start() < b), m[2]])
             if name in found:
                 wrong.append(f"{path.relative_to(ROOT)}: two functions are {name}")
-            found[name] = ("extern" in m[1], *signature(text, m.end()))
+            found[name] = signature("extern" in m[1], text, m.end())
     return found
 
 
-def named(path, aliases):
-    """The function that a path of the prover names, `crate::function` or `crate::Type::method`; an empty text where it names none."""
-    head, _, rest = path.partition(".")
-    found = FUNCTIONS.fullmatch(f"{aliases.get(head, head)}.{rest}")
-    return "::".join([found[1], *re.sub("[«»]", "", found[2]).split(".")]) if found else ""
+def words(text):
+    """A text on one line, whatever its layout."""
+    return re.sub(r",? ?([)\]])", r"\1", re.sub(r"([(\[]) ", r"\1", " ".join(text.split())))
+
+
+def imports(crate):
+    """What the sources of a crate import: how, from where, and the name."""
+    found = set()
+    for _, text in sources(crate):
+        for how, what in USE.findall(text):
+            where, names = re.fullmatch(r"(?:(.*?)(?:::|\.))??([^:.{]+|\{.*\})", words(what)).groups(default="")
+            found.update((words(how), where, name) for name in split(names.strip("{}")))
+    return found
+
+
+def unlike(exports, points, promises):
+    """How the exports of a static library are unlike the entry points of their names."""
+    code = words(" ".join(TACTICS.sub("", USE.sub("", text)) for _, text in sources(exports)))
+    other, *found = code.split(EXPORT)
+    if other.strip():
+        yield f"{exports} has other code than imports and exports: {other.strip()}"
+    called = {crate for text in found for crate in re.findall(r"\{ (\w+)::\w+\(", text)}
+    if len(called) != 1 or not any(name.startswith(f"{crate}::") for crate in called for name in promises):
+        yield f"{exports}: its exports are not of one part: they call {', '.join(sorted(called)) or 'nothing'}"
+        return
+    part = called.pop()
+    missing = {name for name in promises if name.startswith(f"{part}::")}
+    for text in map(str.strip, found):
+        name = f"{part}::{text.partition('(')[0]}"
+        point = points.get(name)
+        if name not in missing or not point:
+            yield f"{exports}: {text.partition('(')[0]} is not promised of {part}, or is there twice"
+        else:
+            given = ", ".join(p.partition(":")[0] for p in point.parameters)
+            if text != words(f"{name.rpartition('::')[2]}{point.head} {{ {name}({given}) }}"):
+                yield f"{exports}: the export of {name} is not one call of it under its own words"
+        missing.discard(name)
+    for name in sorted(missing):
+        yield f"{exports} has no export of {name}"
+    for how, where, name in sorted(imports(exports) - imports(part)):
+        if (how, where) != ("use", part) or not name.isidentifier():
+            yield f"{exports}: {name} is from {where}, and not where {part} has it from"
 
 
 def promised(wrong):
@@ -161,46 +222,38 @@ def promised(wrong):
         if "{-" in text:
             wrong.append(f"{where}: a block comment, which is not told from code here: write line comments")
         text = re.sub(r" *--.*", "", text)
-        aliases = {alias: module for module, _, alias in IMPORT.findall(text)}
-        parts.update(crate for _, crate, _ in IMPORT.findall(text))
+        aliases = {alias: (crate, module) for crate, module, alias in IMPORT.findall(text)}
+        crates = {crate for crate, module in aliases.values() if module == "proofs"}
+        parts.update(crates)
         brought = {(name.strip(), module) for module, names in NAMES.findall(text) for name in names.split(",")}
         for sign, (name, modules) in NEEDED.items():
-            if aliases and sign in text and not any((name, module) in brought for module in modules):
+            if crates and sign in text and not any((name, module) in brought for module in modules):
                 wrong.append(f"{where}: no `use` line brings {name} from {' or '.join(sorted(modules))}")
         for line in filter(None, map(PROMISE.fullmatch, re.sub(r"\n +", " ", text).split("\n"))):
-            name, ended, routine, whole, binders, fact = line.groups()
-            function = named(ended, aliases)
-            if function and function == named(routine, aliases) and closed(whole, 0) == len(whole):
-                found[function] = (f"{where}: {name}", binders.split(), fact)
+            name, contracts, function, proofs, whole, binders, fact = line.groups()
+            crate, module = aliases.get(proofs, ("", ""))
+            named = module == "proofs" and aliases.get(contracts) == (crate, "specs.contracts")
+            if named and closed(whole, 0) == len(whole):
+                path = [crate, *re.sub("[«»]", "", function).split(".")]
+                found["::".join(path)] = (f"{where}: {name}", binders.split(), fact)
     return parts, found
 
 
-def unnamed(function, parameters, answers, promise):
+def unnamed(name, function, promise):
     """What the promise of a function leaves out."""
     where, names, fact = promise
-    if len(names) != len(parameters) + 2:
-        yield f"{where} does not bind the lifetimes, the {len(parameters)} parameters and the answer of {function}"
+    if len(names) != len(function.parameters) + 2:
+        yield f"{where} does not bind the lifetimes, the {len(function.parameters)} parameters and the answer of {name}"
         return
-    if answers and names[-1] not in re.split(r'[\s(){}.;,@"«»]+', fact):
-        yield f"{where} does not name the answer of {function}, {names[-1]}"
+    if function.answers and names[-1] not in re.split(r'[\s(){}.;,@"«»]+', fact):
+        yield f"{where} does not name the answer of {name}, {names[-1]}"
     for equation in outside(fact, " × "):
         sides = outside(equation, " ≡ ")
         if len(set(sides)) < len(sides):
-            yield f"{where} says of {function} that {sides[0]} is itself"
-    for name, parameter in zip(names[1:], parameters):
-        if LENT.search(parameter) and not re.search(rf"(?<![\w.'-]){re.escape(name)}\.exit\.now(?![\w'-])", fact):
-            yield f"{where} does not name what {function} leaves of `{parameter}`: {name}.exit.now"
-
-
-def uncalled(functions, points):
-    """The public functions of static libraries that are not just the call of an entry point, and those that ask something of their caller."""
-    for name, (for_c, parameters, _, clauses, body) in functions.items():
-        call = re.fullmatch(r"([\w:]+)\((.*)\)", body, re.S)
-        passed = [re.sub(r"^mut\s+|\s*:.*", "", p, flags=re.S) for p in parameters]
-        if not for_c or "requires" in clauses:
-            yield f"{name} is in a static library, and is not for C or has a `requires`"
-        elif not call or call[1] not in points or call[1].split("::")[-1] != name.split("::")[-1] or split(call[2]) != passed:
-            yield f"{name} is not just the call of the entry point of its name"
+            yield f"{where} says of {name} that {sides[0]} is itself"
+    for bound, parameter in zip(names[1:], function.parameters):
+        if LENT.search(parameter) and f"{bound}.exit.now" not in re.split(r'[\s(){};,@"«»]+', fact):
+            yield f"{where} does not name what {name} leaves of `{parameter}`: {bound}.exit.now"
 
 
 def misnamed(functions, parts, points, promises):
@@ -209,13 +262,13 @@ def misnamed(functions, parts, points, promises):
         if not functions.get(name) or name in parts:
             yield f"tools/promised.py: INNER names {name}, which has no public function or is a part"
     for name in INNER_FUNCTIONS:
-        if name not in points or points[name][0] or name in promises:
-            yield f"tools/promised.py: INNER_FUNCTIONS names {name}, which is no public function of a part, is for C or is promised"
-    for crate in [c for c in functions if c not in parts]:
-        for name, (for_c, *_) in functions[crate].items():
-            if for_c:
-                yield f"{name} is for C, and no module of crates/promises imports {crate}"
-            elif crate not in INNER:
+        if name not in points or name in promises:
+            yield f"tools/promised.py: INNER_FUNCTIONS names {name}, which is no public function of a part or is promised"
+    for crate in functions:
+        for name, function in functions[crate].items():
+            if function.for_c:
+                yield f"{name} is for C, and {crate} is no static library"
+            elif crate not in parts and crate not in INNER:
                 yield f"{name} is public: {crate} is neither imported by a module of crates/promises nor named in INNER"
 
 
@@ -223,18 +276,18 @@ def main():
     wrong = []
     lines = [line.split("#")[0] for line in (ROOT / "crates.txt").read_text(encoding="utf-8").splitlines()]
     heads = [line.split(":")[0].split() for line in lines if line.strip()]
-    crates = [crate for crate, *kind in heads if "staticlib" not in kind]
-    libraries = {name: f for crate, *kind in heads if "staticlib" in kind for name, f in public(crate, wrong).items()}
+    crates = [name for name, *kind in heads if "staticlib" not in kind]
     parts, promises = promised(wrong)
     functions = {crate: public(crate, wrong) for crate in crates}
     points = {name: f for crate in crates if crate in parts for name, f in functions[crate].items()}
     wrong += misnamed(functions, parts, points, promises)
-    wrong += uncalled(libraries, [p for p in points if p not in INNER_FUNCTIONS])
     for name in [p for p in points if p not in INNER_FUNCTIONS]:
-        _, parameters, answers, clauses, _ = points[name]
-        if "requires" in clauses:
+        if "requires" in points[name].clauses:
             wrong.append(f"{name} has a `requires`")
-        wrong += unnamed(name, parameters, answers, promises[name]) if name in promises else [f"{name} has no promise"]
+        wrong += unnamed(name, points[name], promises[name]) if name in promises else [f"{name} has no promise"]
+    for exports in [name for name, *kind in heads if "staticlib" in kind]:
+        public(exports, wrong)
+        wrong += unlike(exports, points, promises)
     if wrong:
         sys.exit("\n".join(wrong))
     print(f"crates/promises has a promise for each of the {len(points) - len(INNER_FUNCTIONS)} entry points of {len(parts)} parts.")
