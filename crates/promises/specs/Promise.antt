@@ -1,6 +1,6 @@
 -- What it is for a function to keep a promise: it may be called with everything that its types can hold, it returns, and the promised
 -- fact holds of what was passed, of what it left of what was lent, and of the answer. Nothing is read of the function's own contract: from its
--- module comes `ended`, which has the types of the parameters and of the answer alone.
+-- module comes `ended`, which has the types of the parameters and of the answer, and no clause.
 use Rattle.std.specs.Prelude.{ℕ, List, [], ◌∷◌}
 use seplogic.Ra.Ura.{Ura}
 use base.Logic.{emp}
