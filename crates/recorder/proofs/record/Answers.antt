@@ -1,0 +1,18 @@
+-- `recorder::record` meets its contract: question 1, then what is left.
+use Rattle.std.proofs.Common.{◌≡◌, ◌≤◌, ◌<◌, ◌+◌, ◌-◌, ◌*◌, ◌^◌, ◌%◌, ◌/◌, ◌++◌, ◌∷◌, [], ◌&&◌, ◌⊎◌, cond, not, ℕ, List, Bool, true, false, length, take, drop, get_or, refl, sym, ◌∙◌, ap, ap₂, subst, arith, rules, min, map, add-one, add-zero, inl, inr}
+use borrow.Author.Tests.{not-true, not-false}
+use Rattle.run.specs.Claims.{WholeRun}
+use Rattle.run.proofs.Good.{run-whole}
+use Rattle.journal.specs.Writing.{is_replayed}
+use Rattle.recorder.specs.InnerWords.{Replayed}
+use Rattle.recorder.proofs.Recorded.{refused-1, replayed-from}
+use Rattle.recorder.proofs.record.Goals as goal
+
+pub returns-then-not-is_replayed : goal.returns-then-not-is_replayed
+returns-then-not-is_replayed c = refused-1 _ _ _ (sym c.is_replayed.ensures.0 ∙ c.if-not-is_replayed.true) c.refused.ensures
+
+pub slice_bounds-record_replayed-end : goal.slice_bounds-record_replayed-end
+slice_bounds-record_replayed-end c = sym (replayed-from _ (run-whole c.args.run _ c.well_formed.0) (sym c.is_replayed.ensures.0 ∙ c.if-not-is_replayed.false) _ _ refl (c.is_replayed.ensures.1 (c.if-not-is_replayed.false))).1
+
+pub record_replayed-requires : goal.record_replayed-requires
+record_replayed-requires c = (replayed-from _ (run-whole c.args.run _ c.well_formed.0) (sym c.is_replayed.ensures.0 ∙ c.if-not-is_replayed.false) _ _ refl (c.is_replayed.ensures.1 (c.if-not-is_replayed.false))).0
