@@ -33,7 +33,6 @@ use Rattle.recording.proofs.Bounds.{run_sound, items-few, events-few}
 use Rattle.recording.proofs.Zones.{words_at, first_run, events-are, zone-words-are, item-words-are}
 use Rattle.items.specs.InnerItems.{all_words, words_at as items_at_index}
 use Rattle.recorder.specs.InnerWords.{zones_words, shown_events, items_words, recorded_bytes, Fitting, sized_output, written_total, Replayed}
-use Rattle.rules.proofs.AskLaws.{numbers}
 use Rattle.journal.specs.Reading.{read_call, opening_in}
 use Rattle.run.specs.Opening.{opened_run}
 use Rattle.recording.specs.Journal.{record_journal}

@@ -16,7 +16,6 @@ use Rattle.recorder.specs.InnerWords.{zones_words, shown_events, recorded_bytes,
 use Rattle.recorder.proofs.Shown.{zones-length}
 use Rattle.run.specs.State.{terms_of, count_of}
 use Rattle.run.specs.declared.Head.{Head}
-use Rattle.run.specs.Calls.{answer}
 
 module _ (h : Head) (ws ns shown : List ℕ) (number : ℕ) (lent : List ℕ)
     (es : shown ≡ shown_events h) (en : number ≡ length (all_words (count_of h) shown ws ns)) where

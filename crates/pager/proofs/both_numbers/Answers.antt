@@ -1,8 +1,7 @@
 -- `pager::both_numbers` meets its contract: its stores are those of the numbers, the space between them and the line feed.
-use Rattle.std.proofs.Common.{◌≡◌, ◌≤◌, ◌<◌, ◌+◌, ◌-◌, ◌*◌, ◌^◌, ◌%◌, ◌/◌, ◌++◌, ◌∷◌, [], ◌&&◌, ◌⊎◌, cond, not, ℕ, List, Bool, true, false, length, take, drop, get_or, refl, sym, ◌∙◌, ap, ap₂, subst, arith, rules, min, map, add-one, add-zero, inl, inr}
-use lib.Seq.{length-sets}
-use Rattle.text.specs.Text.{space, line_feed, column_text}
-use Rattle.pager.proofs.Stored.{both_stored, both-length}
+use Rattle.std.proofs.Common.{◌++◌, ◌∷◌, [], ◌∙◌}
+use Rattle.text.specs.Text.{line_feed, column_text}
+use Rattle.pager.proofs.Stored.{both_stored}
 use Rattle.pager.proofs.both_numbers.Goals as goal
 
 pub returns : goal.returns

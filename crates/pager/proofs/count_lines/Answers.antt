@@ -1,5 +1,5 @@
 -- `pager::count_lines` meets its contract, by the number of the channels with items before the next one.
-use Rattle.std.proofs.Common.{◌≡◌, ◌≤◌, ◌<◌, ◌+◌, ◌-◌, ◌*◌, ◌^◌, ◌%◌, ◌/◌, ◌++◌, ◌∷◌, [], ◌&&◌, ◌⊎◌, cond, not, ℕ, List, Bool, true, false, length, take, drop, get_or, refl, sym, ◌∙◌, ap, ap₂, subst, arith, rules, min, map, add-one, add-zero, inl, inr}
+use Rattle.std.proofs.Common.{◌≡◌, cond, get_or, refl, ◌∙◌, ap, arith}
 use lib.Dec.{eqb}
 use Rattle.run.proofs.BelowLaws.{sum-next}
 use Rattle.pager.specs.InnerLines.{lines_number}

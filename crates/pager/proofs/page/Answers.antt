@@ -1,7 +1,6 @@
 -- `pager::page` meets its contract: the recording's refusal, or the page of what its bytes show.
-use Rattle.std.proofs.Common.{◌≡◌, ◌≤◌, ◌<◌, ◌+◌, ◌-◌, ◌*◌, ◌^◌, ◌%◌, ◌/◌, ◌++◌, ◌∷◌, [], ◌&&◌, ◌⊎◌, cond, not, ℕ, List, Bool, true, false, length, take, drop, get_or, refl, sym, ◌∙◌, ap, ap₂, subst, arith, rules, min, map, add-one, add-zero, inl, inr}
+use Rattle.std.proofs.Common.{◌≤◌, ℕ, length, ◌∙◌, ap, arith}
 use lib.ListN.{replicate, length-replicate}
-use Rattle.run.specs.Claims.{WholeRun}
 use Rattle.run.proofs.Good.{run-whole}
 use Rattle.journal.specs.Writing.{Output}
 use Rattle.pager.proofs.Called.{run-refused, run_holds, run-page}

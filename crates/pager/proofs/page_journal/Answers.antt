@@ -1,5 +1,5 @@
 -- `pager::page_journal` meets its contract: the refusal of reading or recording, or the page of what the recording's bytes show.
-use Rattle.std.proofs.Common.{◌≡◌, ◌≤◌, ◌<◌, ◌+◌, ◌-◌, ◌*◌, ◌^◌, ◌%◌, ◌/◌, ◌++◌, ◌∷◌, [], ◌&&◌, ◌⊎◌, cond, not, ℕ, List, Bool, true, false, length, take, drop, get_or, refl, sym, ◌∙◌, ap, ap₂, subst, arith, rules, min, map, add-one, add-zero, inl, inr}
+use Rattle.std.proofs.Common.{◌≤◌, ℕ, length, arith}
 use lib.ListN.{replicate, length-replicate}
 use Rattle.pager.proofs.Called.{journal-refused, journal-holds, journal-page}
 use Rattle.pager.proofs.page_journal.Goals as goal

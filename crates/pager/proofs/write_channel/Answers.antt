@@ -1,5 +1,5 @@
 -- `pager::write_channel` meets its contract: its parts are those of the line.
-use Rattle.std.proofs.Common.{◌≡◌, ◌≤◌, ◌<◌, ◌+◌, ◌-◌, ◌*◌, ◌^◌, ◌%◌, ◌/◌, ◌++◌, ◌∷◌, [], ◌&&◌, ◌⊎◌, cond, not, ℕ, List, Bool, true, false, length, take, drop, get_or, refl, sym, ◌∙◌, ap, ap₂, subst, arith, rules, min, map, add-one, add-zero, inl, inr}
+use Rattle.std.proofs.Common.{◌+◌, ◌++◌, ◌∷◌, [], ℕ, List, refl, ◌∙◌, ap, ap₂}
 use Prim.Native.Char.{code}
 use lib.Seq.{sets}
 use Rattle.text.specs.Text.{space, line_feed, digit_code, column_text}

@@ -1,10 +1,6 @@
 -- `pager::write_channels` meets its contract: the lines of the channels before the next one.
-use Rattle.std.proofs.Common.{◌≡◌, ◌≤◌, ◌<◌, ◌+◌, ◌-◌, ◌*◌, ◌^◌, ◌%◌, ◌/◌, ◌++◌, ◌∷◌, [], ◌&&◌, ◌⊎◌, cond, not, ℕ, List, Bool, true, false, length, take, drop, get_or, refl, sym, ◌∙◌, ap, ap₂, subst, arith, rules, min, map, add-one, add-zero, inl, inr}
-use lib.Dec.{eqb}
-use lib.ListN.{length-take, length-drop}
-use Rattle.pager.specs.InnerLines.{Put, lines_in, lines_number}
-use Rattle.pager.proofs.Joined.{line_of, line-size, seventeen, line-more, no_lines, lines-size, lines-before}
-use Rattle.pager.proofs.Stored.{none-put, put_as, put-length, more-put}
+use Rattle.std.proofs.Common.{◌≤◌, ◌-◌}
+use Rattle.pager.specs.InnerLines.{Put, lines_in}
 use Rattle.pager.proofs.write_channels.Given as goal
 
 abbrev pub invariant-loop-k : goal.invariant-loop-k

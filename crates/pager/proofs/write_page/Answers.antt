@@ -1,6 +1,5 @@
 -- `pager::write_page` meets its contract: question 14 by the number of lines, then the lines.
-use Rattle.std.proofs.Common.{◌≡◌, ◌≤◌, ◌<◌, ◌+◌, ◌-◌, ◌*◌, ◌^◌, ◌%◌, ◌/◌, ◌++◌, ◌∷◌, [], ◌&&◌, ◌⊎◌, cond, not, ℕ, List, Bool, true, false, length, take, drop, get_or, refl, sym, ◌∙◌, ap, ap₂, subst, arith, rules, min, map, add-one, add-zero, inl, inr}
-use Rattle.words.specs.Bytes.{word_at}
+use Rattle.std.proofs.Common.{◌∙◌, ap, arith}
 use Rattle.words.specs.Header.{zones_in, number_in}
 use Rattle.pager.proofs.Shown.{on-channels, too_few, enough}
 use Rattle.pager.proofs.write_page.Goals as goal

@@ -1,8 +1,8 @@
 -- `pager::write_zones` meets its contract: the lines of the zones before the next one.
-use Rattle.std.proofs.Common.{◌≡◌, ◌≤◌, ◌<◌, ◌+◌, ◌-◌, ◌*◌, ◌^◌, ◌%◌, ◌/◌, ◌++◌, ◌∷◌, [], ◌&&◌, ◌⊎◌, cond, not, ℕ, List, Bool, true, false, length, take, drop, get_or, refl, sym, ◌∙◌, ap, ap₂, subst, arith, rules, min, map, add-one, add-zero, inl, inr}
+use Rattle.std.proofs.Common.{◌≡◌, ◌≤◌, ◌+◌, ◌*◌, ◌%◌, ℕ, length, ◌∙◌, ap, ap₂, arith}
 use lib.Dec.{leb}
 use lib.ListN.{length-take, length-drop}
-use Rattle.pager.specs.InnerLines.{Put, zone_lines}
+use Rattle.pager.specs.InnerLines.{zone_lines}
 use Rattle.pager.proofs.Joined.{zone-more, zones-size, no-zones}
 use Rattle.page.specs.Layout.{zone_text}
 use Rattle.page.proofs.Lines.{zone-length}

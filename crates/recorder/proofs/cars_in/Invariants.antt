@@ -1,8 +1,7 @@
 -- `recorder::cars_in` meets its contract, by what the items before the next one add up to.
-use Rattle.std.proofs.Common.{◌≡◌, ◌≤◌, ◌<◌, ◌+◌, ◌-◌, ◌*◌, ◌^◌, ◌%◌, ◌/◌, ◌++◌, ◌∷◌, [], ◌&&◌, ◌⊎◌, cond, not, ℕ, List, Bool, true, false, length, take, drop, get_or, refl, sym, ◌∙◌, ap, ap₂, subst, arith, rules, min, map, add-one, add-zero, inl, inr}
+use Rattle.std.proofs.Common.{◌≡◌, ◌≤◌, ◌-◌, ◌*◌}
 use Rattle.words.specs.Bytes.{words_from}
 use Rattle.recording.specs.InnerTotal.{word_cars}
-use Rattle.recorder.proofs.Total.{cars-next}
 use Rattle.recorder.proofs.cars_in.Given as goal
 
 abbrev pub invariant-loop-k : goal.invariant-loop-k

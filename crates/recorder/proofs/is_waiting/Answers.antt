@@ -1,9 +1,7 @@
 -- `recorder::is_waiting` meets its contract: the words before the next one. A channel has no more than its places.
-use Rattle.std.proofs.Common.{◌≡◌, ◌≤◌, ◌<◌, ◌+◌, ◌-◌, ◌*◌, ◌^◌, ◌%◌, ◌/◌, ◌++◌, ◌∷◌, [], ◌&&◌, ◌⊎◌, cond, not, ℕ, List, Bool, true, false, length, take, drop, get_or, refl, sym, ◌∙◌, ap, ap₂, subst, arith, rules, min, map, add-one, add-zero, inl, inr}
-use Rattle.rules.specs.Site.{waits}
-use Rattle.channel.specs.Words.{item_of}
-use Rattle.channel.specs.Channels.{channels_as, words_on}
-use Rattle.recorder.proofs.Waiting.{waits-more, waits-all}
+use Rattle.std.proofs.Common.{arith}
+use Rattle.channel.specs.Channels.{channels_as}
+use Rattle.recorder.proofs.Waiting.{waits-more}
 use Rattle.recorder.proofs.is_waiting.Goals as goal
 
 pub loop-p-preserved : goal.loop-p-preserved

@@ -1,9 +1,8 @@
 -- `recorder::is_waiting` meets its contract: the words before the next one. A channel has no more than its places.
-use Rattle.std.proofs.Common.{◌≡◌, ◌≤◌, ◌<◌, ◌+◌, ◌-◌, ◌*◌, ◌^◌, ◌%◌, ◌/◌, ◌++◌, ◌∷◌, [], ◌&&◌, ◌⊎◌, cond, not, ℕ, List, Bool, true, false, length, take, drop, get_or, refl, sym, ◌∙◌, ap, ap₂, subst, arith, rules, min, map, add-one, add-zero, inl, inr}
+use Rattle.std.proofs.Common.{◌≡◌, ◌≤◌, ◌-◌, take, map}
 use Rattle.rules.specs.Site.{waits}
 use Rattle.channel.specs.Words.{item_of}
 use Rattle.channel.specs.Channels.{channels_as, words_on}
-use Rattle.recorder.proofs.Waiting.{waits-more, waits-all}
 use Rattle.recorder.proofs.is_waiting.Given as goal
 
 abbrev pub invariant-loop-p : goal.invariant-loop-p

@@ -1,8 +1,7 @@
 -- `recorder::no_requests` meets its contract: the indices before the next one.
-use Rattle.std.proofs.Common.{◌≡◌, ◌≤◌, ◌<◌, ◌+◌, ◌-◌, ◌*◌, ◌^◌, ◌%◌, ◌/◌, ◌++◌, ◌∷◌, [], ◌&&◌, ◌⊎◌, cond, not, ℕ, List, Bool, true, false, length, take, drop, get_or, refl, sym, ◌∙◌, ap, ap₂, subst, arith, rules, min, map, add-one, add-zero, inl, inr}
+use Rattle.std.proofs.Common.{◌≡◌, ◌≤◌, ◌-◌}
 use Rattle.rules.specs.Below.{all_below}
 use Rattle.channel.specs.Channels.{channels_as}
-use Rattle.recording.specs.Call.{no_requests}
 use Rattle.recorder.specs.InnerWords.{quiet_at}
 use Rattle.recorder.proofs.no_requests.Given as goal
 

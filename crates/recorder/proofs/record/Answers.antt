@@ -1,10 +1,6 @@
 -- `recorder::record` meets its contract: question 1, then what is left.
-use Rattle.std.proofs.Common.{◌≡◌, ◌≤◌, ◌<◌, ◌+◌, ◌-◌, ◌*◌, ◌^◌, ◌%◌, ◌/◌, ◌++◌, ◌∷◌, [], ◌&&◌, ◌⊎◌, cond, not, ℕ, List, Bool, true, false, length, take, drop, get_or, refl, sym, ◌∙◌, ap, ap₂, subst, arith, rules, min, map, add-one, add-zero, inl, inr}
-use borrow.Author.Tests.{not-true, not-false}
-use Rattle.run.specs.Claims.{WholeRun}
+use Rattle.std.proofs.Common.{refl, sym, ◌∙◌}
 use Rattle.run.proofs.Good.{run-whole}
-use Rattle.journal.specs.Writing.{is_replayed}
-use Rattle.recorder.specs.InnerWords.{Replayed}
 use Rattle.recorder.proofs.Recorded.{refused-1, replayed-from}
 use Rattle.recorder.proofs.record.Goals as goal
 

@@ -1,6 +1,5 @@
 -- `recorder::record_journal` meets its contract: the reading, then what is left of the recording.
-use Rattle.std.proofs.Common.{◌≡◌, ◌≤◌, ◌<◌, ◌+◌, ◌-◌, ◌*◌, ◌^◌, ◌%◌, ◌/◌, ◌++◌, ◌∷◌, [], ◌&&◌, ◌⊎◌, cond, not, ℕ, List, Bool, true, false, length, take, drop, get_or, refl, sym, ◌∙◌, ap, ap₂, subst, arith, rules, min, map, add-one, add-zero, inl, inr}
-use Rattle.recorder.specs.InnerWords.{Replayed}
+use Rattle.std.proofs.Common.{refl, sym}
 use Rattle.recorder.proofs.Recorded.{read-from, journal-recorded, journal-refused}
 use Rattle.recorder.proofs.record_journal.Goals as goal
 

@@ -1,8 +1,6 @@
 -- `recorder::record_replayed` meets its contract: questions 12, 13 and 14, and the bytes.
-use Rattle.std.proofs.Common.{◌≡◌, ◌≤◌, ◌<◌, ◌+◌, ◌-◌, ◌*◌, ◌∷◌, ◌++◌, ℕ, List, length, take, drop, refl, sym, ◌∙◌, ap, ap₂, subst, arith, rules, add-one}
-use borrow.Author.Tests.{not-true, not-false}
-use Rattle.run.specs.State.{count_of, has_started}
-use Rattle.recording.specs.Call.{RecordOutput, no_requests}
+use Rattle.std.proofs.Common.{sym, ◌∙◌, ap}
+use Rattle.recording.specs.Call.{RecordOutput}
 use Rattle.recording.proofs.Bounds.{run_sound}
 use Rattle.recorder.proofs.Recorded.{enough-words, enough-ordinals, parts-fit, parts-written, refused-12, refused-13}
 use Rattle.recorder.proofs.record_replayed.Goals as goal

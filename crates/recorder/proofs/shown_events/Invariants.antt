@@ -1,12 +1,8 @@
 -- `recorder::shown_events` meets its contract: the events of the zones before the next one.
-use Rattle.std.proofs.Common.{◌≡◌, ◌≤◌, ◌<◌, ◌+◌, ◌-◌, ◌*◌, ◌^◌, ◌%◌, ◌/◌, ◌++◌, ◌∷◌, [], ◌&&◌, ◌⊎◌, cond, not, ℕ, List, Bool, true, false, length, take, drop, get_or, refl, sym, ◌∙◌, ap, ap₂, subst, arith, rules, min, map, add-one, add-zero, inl, inr}
-use lib.ListN.{length-set}
+use Rattle.std.proofs.Common.{◌≡◌, ◌≤◌, ◌-◌, ℕ, length, get_or}
 use Rattle.rules.specs.Cut.{events_of}
-use Rattle.rules.specs.declared.Local.{Local}
 use Rattle.run.specs.State.{count_of, zone_at}
-use Rattle.run.specs.declared.Head.{Head}
-use Rattle.recorder.specs.InnerWords.{shown_events}
-use Rattle.recorder.proofs.Shown.{part, part_none, part-more, part-all}
+use Rattle.recorder.proofs.Shown.{part}
 use Rattle.recorder.proofs.shown_events.Given as goal
 
 abbrev pub invariant-loop-i : goal.invariant-loop-i

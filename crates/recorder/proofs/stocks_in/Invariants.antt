@@ -1,8 +1,7 @@
 -- `recorder::stocks_in` meets its contract, by what the stocks before the next one add up to.
-use Rattle.std.proofs.Common.{◌≡◌, ◌≤◌, ◌<◌, ◌+◌, ◌-◌, ◌*◌, ◌^◌, ◌%◌, ◌/◌, ◌++◌, ◌∷◌, [], ◌&&◌, ◌⊎◌, cond, not, ℕ, List, Bool, true, false, length, take, drop, get_or, refl, sym, ◌∙◌, ap, ap₂, subst, arith, rules, min, map, add-one, add-zero, inl, inr}
+use Rattle.std.proofs.Common.{◌≡◌, ◌≤◌, ◌-◌, ◌*◌}
 use Rattle.rules.specs.Below.{sum_below}
 use Rattle.recording.specs.Shown.{stock_word}
-use Rattle.run.proofs.BelowLaws.{sum-next, sum_to}
 use Rattle.recorder.proofs.stocks_in.Given as goal
 
 abbrev pub invariant-loop-i : goal.invariant-loop-i

@@ -1,5 +1,5 @@
 -- `recorder::total_in` meets its contract: the stocks, then the cars of the items.
-use Rattle.std.proofs.Common.{◌≡◌, ◌≤◌, ◌<◌, ◌+◌, ◌-◌, ◌*◌, ◌^◌, ◌%◌, ◌/◌, ◌++◌, ◌∷◌, [], ◌&&◌, ◌⊎◌, cond, not, ℕ, List, Bool, true, false, length, take, drop, get_or, refl, sym, ◌∙◌, ap, ap₂, subst, arith, rules, min, map, add-one, add-zero, inl, inr}
+use Rattle.std.proofs.Common.{◌+◌, ap₂}
 use Rattle.recording.specs.InnerTotal.{total_in}
 use Rattle.recorder.proofs.total_in.Goals as goal
 

@@ -1,5 +1,5 @@
 -- `recorder::write_all` meets its contract: each writer is lent what the one before it left.
-use Rattle.std.proofs.Common.{◌≡◌, ◌≤◌, ◌<◌, ◌+◌, ◌-◌, ◌*◌, ◌∷◌, ◌++◌, ℕ, List, length, take, drop, refl, sym, ◌∙◌, ap, ap₂, subst, arith, rules, add-one}
+use Rattle.std.proofs.Common.{◌≡◌, ◌+◌, ◌-◌, ◌*◌, ◌∷◌, ℕ, List, length, subst, arith}
 use lib.ListN.{length-take, length-drop}
 use borrow.Rule.Slice.PartMut.{put_mid}
 use Rattle.rules.proofs.Editions.{edition-range}

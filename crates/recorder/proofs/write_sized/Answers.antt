@@ -1,5 +1,5 @@
 -- `recorder::write_sized` meets its contract: the number of items decides question 14.
-use Rattle.std.proofs.Common.{◌≡◌, ◌≤◌, ◌<◌, ◌+◌, ◌-◌, ◌*◌, ◌∷◌, ◌++◌, ℕ, List, length, take, drop, refl, sym, ◌∙◌, ap, ap₂, subst, arith, rules, add-one}
+use Rattle.std.proofs.Common.{◌≡◌, ◌≤◌, ℕ, List, length, refl, ◌∙◌, ap, arith}
 use Rattle.run.specs.State.{count_of}
 use Rattle.items.specs.InnerItems.{all_words}
 use Rattle.items.proofs.Counting.{counted_of}

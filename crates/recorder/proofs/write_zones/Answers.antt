@@ -1,14 +1,11 @@
 -- `recorder::write_zones` meets its contract: the words of the zones before the next one.
-use Rattle.std.proofs.Common.{◌≡◌, ◌≤◌, ◌<◌, ◌+◌, ◌-◌, ◌*◌, ◌/◌, ◌%◌, ◌∷◌, ◌++◌, [], ℕ, List, Bool, true, false, length, take, drop, get_or, refl, sym, ◌∙◌, ap, ap₂, subst, arith, rules, add-one}
-use lib.ListN.{length-take, length-drop}
-use Rattle.rules.specs.Cut.{events_of}
+use Rattle.std.proofs.Common.{◌≡◌, ◌*◌, ℕ, List, ap, subst, arith, add-one}
 use Rattle.rules.specs.declared.Local.{Local}
 use Rattle.words.specs.InnerWrote.{Wrote}
 use Rattle.run.specs.Opening.{stock_at}
-use Rattle.run.specs.State.{count_of, zone_at}
-use Rattle.recording.specs.Layout.{join_below}
+use Rattle.run.specs.State.{count_of}
 use Rattle.recorder.specs.InnerWords.{checkpoint_words, zones_words}
-use Rattle.items.proofs.Writing.{none-wrote, wrote-length, more-wrote}
+use Rattle.items.proofs.Writing.{more-wrote}
 use Rattle.recorder.proofs.Shown.{zones-size}
 use Rattle.recorder.proofs.write_zones.Goals as goal
 

@@ -1,5 +1,5 @@
 -- `report::chosen` meets its contract, by the two names.
-use Rattle.std.proofs.Common.{◌≡◌, ◌≤◌, ◌<◌, ◌+◌, ◌-◌, ◌*◌, ◌^◌, ◌%◌, ◌/◌, ◌++◌, ◌∷◌, [], ◌&&◌, ◌⊎◌, cond, not, ℕ, List, Bool, true, false, length, take, drop, get_or, refl, sym, ◌∙◌, ap, ap₂, subst, arith, rules, min, map, add-one, add-zero, inl, inr}
+use Rattle.std.proofs.Common.{◌≡◌, ℕ, List, true, false, sym, ◌∙◌}
 use Rattle.text.specs.Codes.{codes}
 use Rattle.words.specs.Bytes.{same_words}
 use Rattle.conversion.specs.declared.Conversion.TheVariants.{Upgrade, Downgrade}

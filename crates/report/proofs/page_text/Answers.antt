@@ -1,5 +1,4 @@
 -- `report::page_text` meets its contract: the refusal of the journal or of its recording, or the page.
-use Rattle.std.proofs.Common.{◌≡◌, ◌≤◌, ◌<◌, ◌+◌, ◌-◌, ◌*◌, ◌^◌, ◌%◌, ◌/◌, ◌++◌, ◌∷◌, [], ◌&&◌, ◌⊎◌, cond, not, ℕ, List, Bool, true, false, length, take, drop, get_or, refl, sym, ◌∙◌, ap, ap₂, subst, arith, rules, min, map, add-one, add-zero, inl, inr}
 use Rattle.report.proofs.Wall.{refused-printed, page-printed}
 use Rattle.report.proofs.page_text.Goals as goal
 

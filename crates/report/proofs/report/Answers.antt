@@ -1,5 +1,5 @@
 -- `report::report` meets its contract: the refusal of the journal or of its recording, or the recording.
-use Rattle.std.proofs.Common.{◌≡◌, ◌≤◌, ◌<◌, ◌+◌, ◌-◌, ◌*◌, ◌^◌, ◌%◌, ◌/◌, ◌++◌, ◌∷◌, [], ◌&&◌, ◌⊎◌, cond, not, ℕ, List, Bool, true, false, length, take, drop, get_or, refl, sym, ◌∙◌, ap, ap₂, subst, arith, rules, min, map, add-one, add-zero, inl, inr}
+use Rattle.std.proofs.Common.{ℕ, ap, arith}
 use native.Mathlib.Numerals.{unary_clauses}
 use lib.ListN.{replicate, length-replicate}
 use Rattle.recording.specs.declared.JournalRecorded.{JournalRecorded}

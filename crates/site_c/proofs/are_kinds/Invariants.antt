@@ -1,8 +1,8 @@
 -- `site_c::are_kinds` meets its contract, by the indices before the next one.
-use Rattle.std.proofs.Common.{◌≡◌, ◌≤◌, ◌<◌, ◌+◌, ◌-◌, ◌*◌, ◌^◌, ◌%◌, ◌/◌, ◌++◌, ◌∷◌, [], ◌&&◌, ◌⊎◌, cond, not, ℕ, List, Bool, true, false, length, take, drop, get_or, refl, sym, ◌∙◌, ap, ap₂, subst, arith, rules, min, map, add-one, add-zero, inl, inr}
+use Rattle.std.proofs.Common.{◌≡◌, ◌≤◌, ◌-◌}
 use lib.Dec.{leb}
 use Rattle.rules.specs.Below.{all_below}
-use Rattle.site_c.specs.Plain.{plain_at, are_kinds}
+use Rattle.site_c.specs.Plain.{plain_at}
 use Rattle.site_c.proofs.are_kinds.Given as goal
 
 abbrev pub invariant-loop-i : goal.invariant-loop-i

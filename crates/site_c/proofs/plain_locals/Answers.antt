@@ -1,5 +1,4 @@
 -- `site_c::plain_locals` meets its contract.
-use Rattle.std.proofs.Common.{◌≡◌, ◌≤◌, ◌<◌, ◌+◌, ◌-◌, ◌*◌, ◌^◌, ◌%◌, ◌/◌, ◌++◌, ◌∷◌, [], ◌&&◌, ◌⊎◌, cond, not, ℕ, List, Bool, true, false, length, take, drop, get_or, refl, sym, ◌∙◌, ap, ap₂, subst, arith, rules, min, map, add-one, add-zero, inl, inr}
 use Rattle.site_c.specs.Plain.{plain_locals}
 use Rattle.site_c.proofs.plain_locals.Goals as goal
 
