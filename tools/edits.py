@@ -23,8 +23,8 @@ SAID = re.compile(r"^(?:rt: )?must-fail (\S+)/(\S+)\.edit: (.*)", re.M)
 REFUSED = "refused, as it must be: "
 GOAL = re.compile(r"note: \S*src/\S+\.rt:\d+:\d+: it is not proved that ")
 FACT = re.compile(
-    r"two (?:types|values) |expected type `|≟ .*does not hold|`(?:omega|search|grind|cc|simp)`: |`rw`: no occurrence of|"
-    r"give a proof of that as the last argument|is false|do not agree"
+    r"two (?:types|values|sides) |expected type `|` ≟ `|`: `.* ≡ |`(?:omega|search|grind|cc|simp)`: |`rw`: no occurrence of|"
+    r"give a proof of that as the last argument|error: `[^`]+`: `[^`]*$"
 )
 MISSING = re.compile(r"is not in scope|has no field|has no `|missing field|is not a field of|that can be named from here")
 

@@ -16,6 +16,7 @@ use Rattle.rules.proofs.Finite.{same, below, below₂, from_one}
 use Rattle.rules.proofs.Members.{has-off, members_step}
 use Rattle.rules.proofs.Tests.{Same, same?, below?}
 use Rattle.zone.specs.Zone.{next_target}
+use Rattle.zone.proofs.Computed.{next_computed}
 
 -- What the next zone of a set is: no second number has these properties.
 pub record IsNext (set next : ℕ) : Type 0 where
@@ -30,36 +31,31 @@ pub record IsNext (set next : ℕ) : Type 0 where
 abbrev pub rest : ℕ → ℕ
 rest set = bit_and set (set - 1)
 
--- What the laws are computed by, named once: `unfolding computed` unfolds all of it.
-computed : ℕ → Bool
-unfolding has next_target count_trailing_zeros
-computed s = has s (index (next_target s))
-
 next_low : (s : ℕ) → s < 256 → 0 < s → 1 ≤ next_target s
-unfolding computed
+unfolding next_computed
 next_low s h p = leb→le _ _ (from_one 255 (λ s. leb 1 (next_target s)) tt s h p)
 
 next-high : (s : ℕ) → s < 256 → next_target s ≤ 8
-unfolding computed
+unfolding next_computed
 next-high s h = leb→le _ _ (below 256 (λ s. leb (next_target s) 8) tt s h)
 
 next-has : (s : ℕ) → s < 256 → 0 < s → has s (index (next_target s)) ≡ true
-unfolding computed
+unfolding next_computed
 next-has s h p = same _ _ (from_one 255 (λ s. beq (has s (index (next_target s))) true) tt s h p)
 
 next-least : (s i : ℕ) → s < 256 → i < 8 → has s i ≡ true → next_target s ≤ i + 1
-unfolding computed
+unfolding next_computed
 next-least s i h hi e =
     leb→le _ _ (subst (λ (b : Bool). T (not b || leb (next_target s) (i + 1))) e
     (below₂ 256 8 (λ s i. not (has s i) || leb (next_target s) (i + 1)) tt s i h hi))
 
 rest-eight : (s i : ℕ) → s < 256 → i < 8 → has (rest s) i ≡ has s i && not (eqb i (index (next_target s)))
-unfolding computed
+unfolding next_computed
 rest-eight s i h hi = same _ _ (below₂ 256 8 (λ s i. beq (has (rest s) i) (has s i && not (eqb i (index (next_target s))))) tt s i h hi)
 
 -- It is so of every set of zones of a site,
 pub next-is : (set : ℕ) → set < 256 → IsNext set (next_target set)
-unfolding computed
+unfolding next_computed
 next-is set h = record {
   none = λ e. rw e;
   member = λ d. (next_low set h (omega arith), next-high set h, next-has set h (omega arith));
@@ -96,7 +92,7 @@ rest_has set i h = go (below? i 8)
 
 -- So a maker who takes out one zone after another until 0 is answered meets each zone of the set once, lowest first.
 pub next-members : (set : ℕ) → set < 256 → set ≢ nobody → members set ≡ index (next_target set) ∷ members (rest set)
-unfolding computed
+unfolding next_computed
 next-members set h d =
     members_step set h (omega arith)
     ∙ ap (λ (k : ℕ). k ∷ members (rest set))
