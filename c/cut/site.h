@@ -66,15 +66,15 @@ extern "C" {
 
 /* Bytes of stack that are enough for a call, as in <cut/zone.h>: cut_open; cut_send, cut_receive, cut_start, cut_enter and cut_leave;
  * cut_record; cut_page; cut_write; and the calls on a journal, of which both conversions have one number. */
-#define CUT_OPEN_STACK 4608
+#define CUT_OPEN_STACK 8704
 #define CUT_CALL_STACK 2048
-#define CUT_RECORD_STACK 36864
-#define CUT_PAGE_STACK 38912
-#define CUT_WRITE_STACK 38912
-#define CUT_JOURNAL_READ_STACK 22528
-#define CUT_JOURNAL_RECORD_STACK 18432
-#define CUT_JOURNAL_PAGE_STACK 20480
-#define CUT_JOURNAL_CONVERT_STACK 24576
+#define CUT_RECORD_STACK 40960
+#define CUT_PAGE_STACK 43008
+#define CUT_WRITE_STACK 43008
+#define CUT_JOURNAL_READ_STACK 30720
+#define CUT_JOURNAL_RECORD_STACK 22528
+#define CUT_JOURNAL_PAGE_STACK 24576
+#define CUT_JOURNAL_CONVERT_STACK 28672
 
 /* A "zone" of a run. 10 bytes, alignment 2. */
 typedef struct cut_local {
