@@ -1,5 +1,5 @@
 -- `recorder::write_sized` meets its contract: the number of items decides question 14.
-use Rattle.std.proofs.Common.{◌≡◌, ◌≤◌, ℕ, List, length, refl, ◌∙◌, ap, arith}
+use Rattle.std.proofs.Common.{rules, ◌≡◌, ◌≤◌, ℕ, List, length, refl, ◌∙◌, ap, arith}
 use Rattle.run.specs.State.{count_of}
 use Rattle.items.specs.InnerItems.{all_words}
 use Rattle.items.proofs.Counting.{counted_of}
@@ -40,12 +40,12 @@ pub write_all-written-requires : goal.write_all-written-requires
 write_all-written-requires c =
     let p = c.requires in
     let n = (goal.at.write_all-written-requires c).After-number-number in
-    (p.fewest, p.most, p.events, p.numbers, counted_of c.counted-seen.ensures, few n, number_is n, c.if-out-count.false, p.edition)
+    (p.fewest, p.most, p.events, p.numbers, counted_of c.counted-seen.ensures, few n, number_is n, search (rules, c.if-out-count.false), p.edition)
 
 pub total_in-total-requires : goal.total_in-total-requires
 total_in-total-requires c =
     let n = (goal.at.total_in-total-requires c).After-number-number in
-    (c.requires.most, few n, wrote-room _ _ _ _ _ c.write_all-written.ensures c.if-out-count.false)
+    (c.requires.most, few n, wrote-room _ _ _ _ _ c.write_all-written.ensures (search (rules, c.if-out-count.false)))
 
 pub returns : goal.returns
 returns c =
