@@ -55,6 +55,10 @@ pub record Walked (start : ℕ → ℕ) (shown ws ns all out ends : List ℕ) (m
 one_less : (m s t f g : ℕ) → m ≡ s → t + f ≡ s + g → f ≡ suc g → m - 1 ≡ t
 one_less m s t f g a b e = omega arith
 
+-- One record further back, of n with their m numbers.
+pub back : (i n m : ℕ) → 1 ≤ i → i ≤ n → m ≡ n → (i - 1 < n) × (i - 1 < m) × (i - 1 ≤ n) × (i - 1 < i)
+back i n m a b e = (omega arith, omega arith, omega arith, omega arith)
+
 pub walked_to : {start : ℕ → ℕ} {shown ws ns all out ends : List ℕ} {missing i : ℕ} → Walked start shown ws ns all out ends missing i → 1 ≤ i
     → Walked start shown ws ns all out ends missing (suc (i - 1))
 walked_to {i = i} w h = let e : suc (i - 1) ≡ i = omega arith in rw e w
@@ -217,7 +221,7 @@ module _ {count : ℕ} {seen shown ws ns begins o : List ℕ} (z : Known count s
   unfolding item_number
   begin-all = all-number count seen shown ws ns z.counted
 
-  final-size : length (final count seen shown ws ns o) ≡ length o
+  pub final-size : length (final count seen shown ws ns o) ≡ length o
   final-size = omega (
     arith,
     length-append (words_bytes (all_words count shown ws ns)) (drop (2 * begin_at count seen 64) o),
@@ -286,7 +290,7 @@ module _ {count : ℕ} {seen shown ws ns begins o : List ℕ} (z : Known count s
       ∙ get_or-append-add first (at-index k) j 0)
 
   -- All of them are within the lent bytes.
-  ends : 2 * get_or begins 64 0 ≤ length o
+  pub ends : 2 * get_or begins 64 0 ≤ length o
   ends = omega (arith, z.found 64 (omega arith), begin-all, z.room)
 
   pub wrote-all : {out ends : List ℕ} {missing i : ℕ} → Going out ends missing i → missing ≡ 0
@@ -297,6 +301,13 @@ module _ {count : ℕ} {seen shown ws ns begins o : List ℕ} (z : Known count s
         number = ap (λ (x : ℕ). 2 * x) (f ∙ begin-all);
         bytes = rw f (walked_all w e (begin-none count seen));
       }
+
+  -- While an item is missing there is a record further back.
+  pub more-records : {out ends : List ℕ} {missing : ℕ} (i : ℕ) → Going out ends missing i → (missing ≡ 0 → ⊥) → 1 ≤ i
+  more-records (suc i) w n = omega arith
+  more-records {out} {ends} zero w n =
+      absurd (n (w.missing-is ∙ sum-end 0 64 (λ k. get_or ends (k + 1) 0 - begin_at count seen k) (omega arith)
+      (λ k b h. omega (arith, w.end_is k h, z.counted.sent k h, fewer k, begin-next count seen k))))
 
   further : {out ends : List ℕ} {missing : ℕ} (i : ℕ) → Going out ends missing i → min missing 1 ≤ i
   further (suc i) w = omega arith
@@ -334,10 +345,10 @@ module _ {count : ℕ} {seen shown ws ns begins o : List ℕ} (z : Known count s
       some-missing : begin_at count seen high < end-here
       some-missing = omega (arith, n, begin-is, w.end_is high (low g), rises)
 
-      item-end : (1 ≤ end-here) × (2 * end-here ≤ length o)
+      pub item-end : (1 ≤ end-here) × (2 * end-here ≤ length o)
       item-end = (omega (arith, some-missing), omega (arith, w.end_is high (low g), end_before high (low g), z.room))
 
-      item_room : 2 * end-here ≤ length out
+      pub item_room : 2 * end-here ≤ length out
       item_room = omega (arith, item-end.1, w.size, final-size)
 
       -- It is the last message at its channel that is not written.

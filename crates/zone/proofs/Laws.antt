@@ -1,14 +1,25 @@
--- What the zone part's tests say of numbers.
-use mathlib.Core.Path.{◌≡◌}
-use mathlib.Core.Bool.{true, not, ◌&&◌}
-use Prim.Native.Nat.{ℕ, ◌≤◌}
+-- What the zone part's tests say of numbers, a call's negated test of its callee's meaning, and the last question of a gate step.
+use mathlib.Core.Path.{◌≡◌, refl, sym, ◌∙◌, ap}
+use mathlib.Core.Bool.{true, false, not, ◌&&◌}
+use mathlib.Core.List.{[], ◌∷◌}
+use mathlib.Core.Logic.{◌≢◌}
+use Prim.Native.Nat.{ℕ, ◌+◌, ◌≤◌, ◌<◌}
 use native.Mathlib.Omega.{arith}
-use lib.Dec.{eqb}
-use Rattle.rules.specs.Edition.{is_edition}
-use Rattle.rules.specs.Questions.{is_count, is_on}
+use lib.Dec.{eqb, leb}
+use borrow.Author.Tests.{leb-true, lt-ltb}
+use Rattle.rules.specs.Edition.{is_edition, has_gates}
+use Rattle.rules.specs.Limits.{most_cars, most_records}
+use Rattle.rules.specs.Questions.{question, refusal, ask, is_count, is_on}
+use Rattle.rules.specs.Sets.{nobody, within}
+use Rattle.rules.specs.Zone.{needed, through, gated}
+use Rattle.rules.specs.declared.Direction.{Direction}
+use Rattle.rules.specs.declared.Direction.TheVariants.{In, Out}
+use Rattle.rules.specs.declared.Local.{Local}
+use Rattle.rules.proofs.AskLaws.{AllYes, numbers, lacks, ask-yes, ask-behind, all_yes, ask-refused}
 use Rattle.rules.proofs.QuestionLaws.{count-high, on-low, on-high}
 use Rattle.rules.proofs.Tests.{and_left, and_right}
-use Rattle.zone.specs.Zone.{is_other, is_zone_sound}
+use Rattle.zone.specs.Zone.{local_of, with_local, is_other, is_zone_sound, has_room, refused, accepted, last_gate_question, gate_step}
+use Rattle.zone.specs.declared.Step.{Step}
 use Rattle.zone.specs.declared.Zone.{Zone}
 
 -- A zone's number on a site is 1 to 8.
@@ -38,3 +49,47 @@ pub other-number : (z : Zone) (k : ℕ) → is_zone_sound z ≡ true → is_othe
 unfolding is_other
 other-number z k h g =
     on-site _ _ (sound-count z h).0 (and_left (is_on z.count k) (not (eqb k z.number)) g)
+
+own-stock : (z : Zone) → is_zone_sound z ≡ true → z.stock ≤ most_cars
+unfolding is_zone_sound
+own-stock z h =
+    let w = is_edition z.edition && is_count z.count && is_on z.count z.number && within z.deps z.count in
+    let s = leb z.stock most_cars in
+    leb-true z.stock most_cars (and_right w s (and_left (w && s) (leb z.events most_records) h))
+
+-- A gate step behind 6: its last question, and what is accepted.
+module _ (z : Zone) (d : Direction) (cars last : ℕ) (sound : is_zone_sound z ≡ true) (offered : has_gates z.edition ≡ true)
+    (room : z.events < most_records) (asks : last ≡ refusal (last_gate_question d cars z.stock ∷ [])) where
+  behind-6 : ask (last_gate_question d cars z.stock ∷ []) (refused z) (accepted (with_local z (gated d cars (local_of z))) false nobody nobody)
+      ≡ gate_step z d cars
+  unfolding gate_step
+  behind-6 = sym (ask-behind (question 1 (is_zone_sound z) ∷ question 15 (has_gates z.edition) ∷ question 6 (has_room z) ∷ [])
+      (last_gate_question d cars z.stock ∷ []) (refused z) _ (sound, (offered, (lt-ltb z.events most_records room, tt))))
+
+  last-yes : last ≡ 0 → AllYes (last_gate_question d cars z.stock ∷ [])
+  last-yes e = all_yes (last_gate_question d cars z.stock ∷ []) (nonzero d) (sym asks ∙ e)
+    where
+      nonzero : (d : Direction) → lacks 0 (numbers (last_gate_question d cars z.stock ∷ [])) ≡ true
+      nonzero In = refl
+      nonzero Out = refl
+
+  pub gate-refused : (x : Step) → x ≡ refused z last → last ≢ 0 → x ≡ gate_step z d cars
+  gate-refused x e h =
+      e ∙ ap (refused z) asks ∙ sym (ask-refused (last_gate_question d cars z.stock ∷ []) (refused z) _ (λ q. h (asks ∙ q))) ∙ behind-6
+
+  pub gate-done : (l next : Local) (y : Zone) → l ≡ local_of z → next ≡ gated d cars l → y ≡ with_local z next → last ≡ 0
+      → accepted y false nobody nobody ≡ gate_step z d cars
+  gate-done l next y e f g h =
+      ap (λ (y : Zone). accepted y false nobody nobody) (g ∙ ap (with_local z) (f ∙ ap (gated d cars) e))
+      ∙ sym (ask-yes (last_gate_question d cars z.stock ∷ []) (refused z) _ (last-yes h))
+      ∙ behind-6
+
+  -- The stock stays within 16 bits.
+  pub gate-fits : (l : Local) → l ≡ local_of z → last ≡ 0
+      → (needed d cars ≤ l.stock) × (through d cars l.stock ≤ most_cars) × (l.events < most_records)
+  gate-fits l e h = rw e (go d (last-yes h))
+    where
+      go : (d : Direction) → AllYes (last_gate_question d cars z.stock ∷ [])
+          → (needed d cars ≤ z.stock) × (through d cars z.stock ≤ most_cars) × (z.events < most_records)
+      go In y = (omega arith, leb-true (z.stock + cars) most_cars y.0, room)
+      go Out y = (leb-true cars z.stock y.0, omega (arith, own-stock z sound), room)

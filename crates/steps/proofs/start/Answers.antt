@@ -38,6 +38,7 @@ request_all-requires c = (zone-sited 8 _ (behind-both (Start c.args.zone) _ _ _ 
 
 pub returns : goal.returns
 returns c = λ held.
+    let b = behind-both (Start c.args.zone) _ _ _ _ c.requires tt (sym c.is_on.ensures ∙ c.if-not-is_on.false) c.if-records-ge-MOST_RECORDS.false in
     start-0 _ _ _ _ _ held c.if-started.false _ c.start-got.ensures _ (none-full _ _ _ _ (c.highest_full-full.ensures _) c.if-full-ne0.false)
     c.request_all.ensures
-    ∙ (behind-both (Start c.args.zone) _ _ _ _ c.requires tt (sym c.is_on.ensures ∙ c.if-not-is_on.false) c.if-records-ge-MOST_RECORDS.false).own _ _ held
+    ∙ b.own _ _ held
