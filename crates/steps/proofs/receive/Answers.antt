@@ -5,8 +5,15 @@ use Rattle.channel.specs.Channels.{channels_as, len_of}
 use Rattle.channel.proofs.Search.{some-full, none-full}
 use Rattle.run.specs.declared.SiteCall.TheVariants.{Receive}
 use Rattle.run.proofs.Outcome.{pair, pair-low}
-use Rattle.steps.proofs.Laws.{effect-5, effect-6, behind-both, receive-9, receive-10, receive-0, receive-quiet}
+use Rattle.steps.proofs.Laws.{effect-5, effect-6, Behind, behind-both, receive-9, receive-10, receive-0, receive-quiet}
+use Rattle.steps.proofs.receive.Goals.{Else-records-ge-MOST_RECORDS}
 use Rattle.steps.proofs.receive.Goals as goal
+
+-- What 5 and 6 leave: the zones are named, what the call takes fits, and its own questions decide.
+behind : (c : Else-records-ge-MOST_RECORDS) → let a = c.args in
+    Behind (Receive c.args.from c.args.to) a.terms a.records a.z (channels_as a.items.now a.lens.now)
+behind c =
+    behind-both (Receive c.args.from c.args.to) _ _ _ _ c.requires tt (sym c.is_pair.ensures ∙ c.if-not-is_pair.false) c.if-records-ge-MOST_RECORDS.false
 
 pos : (n : ℕ) → n ≢ 0 → 0 < n
 pos n h = omega arith
@@ -20,22 +27,22 @@ returns-then-records-ge-MOST_RECORDS c = λ started held.
     effect-6 (Receive c.args.from c.args.to) _ _ _ _ started held tt (sym c.is_pair.ensures ∙ c.if-not-is_pair.false) _ c.no_effect-then-records-ge-MOST_RECORDS.ensures c.if-records-ge-MOST_RECORDS.true
 
 pub overflow_sub-a : goal.overflow_sub-a
-overflow_sub-a c = (pair-low 8 _ _ (behind-both (Receive c.args.from c.args.to) _ _ _ _ c.requires tt (sym c.is_pair.ensures ∙ c.if-not-is_pair.false) c.if-records-ge-MOST_RECORDS.false).fits.0).0
+overflow_sub-a c = (pair-low 8 _ _ (behind (goal.at.overflow_sub-a c).Else-records-ge-MOST_RECORDS).fits.0).0
 
 pub overflow_sub-b : goal.overflow_sub-b
-overflow_sub-b c = (pair-low 8 _ _ (behind-both (Receive c.args.from c.args.to) _ _ _ _ c.requires tt (sym c.is_pair.ensures ∙ c.if-not-is_pair.false) c.if-records-ge-MOST_RECORDS.false).fits.0).1
+overflow_sub-b c = (pair-low 8 _ _ (behind (goal.at.overflow_sub-b c).Else-records-ge-MOST_RECORDS).fits.0).1
 
 pub channel_index-k-requires : goal.channel_index-k-requires
-channel_index-k-requires c = let p = pair 8 _ _ (behind-both (Receive c.args.from c.args.to) _ _ _ _ c.requires tt (sym c.is_pair.ensures ∙ c.if-not-is_pair.false) c.if-records-ge-MOST_RECORDS.false).fits.0 in (p.from, p.to)
+channel_index-k-requires c = let p = pair 8 _ _ (behind (goal.at.channel_index-k-requires c).Else-records-ge-MOST_RECORDS).fits.0 in (p.from, p.to)
 
 pub returns-then-lens-k-eq0 : goal.returns-then-lens-k-eq0
 returns-then-lens-k-eq0 c = λ started held.
     receive-9 _ _ _ _ _ started held _ c.channel_index-k.ensures.0 _ c.no_effect-then-lens-k-eq0.ensures c.if-lens-k-eq0.true
-    ∙ (behind-both (Receive c.args.from c.args.to) _ _ _ _ c.requires tt (sym c.is_pair.ensures ∙ c.if-not-is_pair.false) c.if-records-ge-MOST_RECORDS.false).own _ started held
+    ∙ (behind (goal.at.returns-then-lens-k-eq0 c).Else-records-ge-MOST_RECORDS).own _ started held
 
 pub take-got-requires : goal.take-got-requires
 take-got-requires c =
-    let f = (behind-both (Receive c.args.from c.args.to) _ _ _ _ c.requires tt (sym c.is_pair.ensures ∙ c.if-not-is_pair.false) c.if-records-ge-MOST_RECORDS.false).fits in
+    let f = (behind (goal.at.take-got-requires c).Else-records-ge-MOST_RECORDS).fits in
     let a = c.args in
     let q = pair 8 _ _ f.0 in
     let e = c.channel_index-k.ensures.0 in
@@ -45,23 +52,23 @@ take-got-requires c =
 
 pub returns-then-got-eq0 : goal.returns-then-got-eq0
 returns-then-got-eq0 c = λ started held.
-    receive-quiet _ _ _ _ _ started held _ c.channel_index-k.ensures.0 c.if-lens-k-eq0.false _ c.take-got.ensures c.if-got-eq0.true _ _ (behind-both (Receive c.args.from c.args.to) _ _ _ _ c.requires tt (sym c.is_pair.ensures ∙ c.if-not-is_pair.false) c.if-records-ge-MOST_RECORDS.false).fits.0 c.pop-taken.ensures.2 c.pop-taken.ensures.1
-    ∙ (behind-both (Receive c.args.from c.args.to) _ _ _ _ c.requires tt (sym c.is_pair.ensures ∙ c.if-not-is_pair.false) c.if-records-ge-MOST_RECORDS.false).own _ started held
+    receive-quiet _ _ _ _ _ started held _ c.channel_index-k.ensures.0 c.if-lens-k-eq0.false _ c.take-got.ensures c.if-got-eq0.true _ _ (behind (goal.at.returns-then-got-eq0 c).Else-records-ge-MOST_RECORDS).fits.0 c.pop-taken.ensures.2 c.pop-taken.ensures.1
+    ∙ (behind (goal.at.returns-then-got-eq0 c).Else-records-ge-MOST_RECORDS).own _ started held
 
 pub highest_full-full-requires : goal.highest_full-full-requires
-highest_full-full-requires c = (pair 8 _ _ (behind-both (Receive c.args.from c.args.to) _ _ _ _ c.requires tt (sym c.is_pair.ensures ∙ c.if-not-is_pair.false) c.if-records-ge-MOST_RECORDS.false).fits.0).to
+highest_full-full-requires c = (pair 8 _ _ (behind (goal.at.highest_full-full-requires c).Else-records-ge-MOST_RECORDS).fits.0).to
 
 pub returns-then-full-ne0 : goal.returns-then-full-ne0
 returns-then-full-ne0 c = λ started held.
     receive-10 _ _ _ _ _ started held _ c.channel_index-k.ensures.0 c.if-lens-k-eq0.false _ c.take-got.ensures _ c.no_effect-then-full-ne0.ensures
     (some-full _ _ _ _ (c.highest_full-full.ensures _) c.if-full-ne0.true)
-    ∙ (behind-both (Receive c.args.from c.args.to) _ _ _ _ c.requires tt (sym c.is_pair.ensures ∙ c.if-not-is_pair.false) c.if-records-ge-MOST_RECORDS.false).own _ started held
+    ∙ (behind (goal.at.returns-then-full-ne0 c).Else-records-ge-MOST_RECORDS).own _ started held
 
 pub request_all-requires : goal.request_all-requires
-request_all-requires c = (pair 8 _ _ (behind-both (Receive c.args.from c.args.to) _ _ _ _ c.requires tt (sym c.is_pair.ensures ∙ c.if-not-is_pair.false) c.if-records-ge-MOST_RECORDS.false).fits.0).to
+request_all-requires c = (pair 8 _ _ (behind (goal.at.request_all-requires c).Else-records-ge-MOST_RECORDS).fits.0).to
 
 pub returns : goal.returns
 returns c = λ started held.
-    receive-0 _ _ _ _ _ started held _ c.channel_index-k.ensures.0 c.if-lens-k-eq0.false _ c.take-got.ensures _ _ _ (behind-both (Receive c.args.from c.args.to) _ _ _ _ c.requires tt (sym c.is_pair.ensures ∙ c.if-not-is_pair.false) c.if-records-ge-MOST_RECORDS.false).fits.0
+    receive-0 _ _ _ _ _ started held _ c.channel_index-k.ensures.0 c.if-lens-k-eq0.false _ c.take-got.ensures _ _ _ (behind (goal.at.returns c).Else-records-ge-MOST_RECORDS).fits.0
     (none-full _ _ _ _ (c.highest_full-full.ensures _) c.if-full-ne0.false) c.pop-taken-2.ensures.2 c.pop-taken-2.ensures.1 c.request_all.ensures
-    ∙ (behind-both (Receive c.args.from c.args.to) _ _ _ _ c.requires tt (sym c.is_pair.ensures ∙ c.if-not-is_pair.false) c.if-records-ge-MOST_RECORDS.false).own _ started held
+    ∙ (behind (goal.at.returns c).Else-records-ge-MOST_RECORDS).own _ started held
