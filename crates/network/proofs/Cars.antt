@@ -30,7 +30,7 @@ use Rattle.rules.proofs.Sums.{sum-at}
 use Rattle.rules.proofs.Ungated.{Ungated, NoneThrough, ungated-none, none-through, none_inside}
 use Rattle.rules.proofs.Tests.{and_left, and_right, eqb_refl, below?}
 use Rattle.zone.specs.Zone.{is_zone_sound, is_other, has_room, refused, send_step, receive_step, request_step, start_step, gate_step}
-use Rattle.zone.specs.declared.Step.{Step}
+use Rattle.zone.specs.Answer.{StepAnswer}
 use Rattle.zone.specs.declared.Zone.{Zone}
 use Rattle.zone.proofs.Asks.{send_asks, request_asks, start_asks, gate_asks}
 use Rattle.network.specs.Network.{Network, open_network, take_step, answer, is_accepted, made, after, accepted_calls, starts_in, network_site}
@@ -103,17 +103,17 @@ all-between n (c ∷ cs) net site = go (is_accepted (answer c net)) refl (all-be
 -- ---- 20
 
 -- A call is refused with a number.
-abbrev pub RefusedWith : ℕ → Option Step → Type 0
+abbrev pub RefusedWith : ℕ → Option StepAnswer → Type 0
 RefusedWith m none = ⊥
 RefusedWith m (some x) = x.refusal ≡ m
 
 -- A list without question 20 is not refused with it.
-not-asked : (qs : List Question) (z : Zone) (x : Step) → x.refusal ≡ 0 → lacks 20 (numbers qs) ≡ true → (ask qs (refused z) x).refusal ≢ 20
+not-asked : (qs : List Question) (z : Zone) (x : StepAnswer) → x.refusal ≡ 0 → lacks 20 (numbers qs) ≡ true → (ask qs (refused z) x).refusal ≢ 20
 not-asked qs z x accepted l e = go (ask-cases qs (refused z) x)
   where
     go : (AllYes qs × (ask qs (refused z) x ≡ x)) ⊎ ((m : ℕ) × Among m (numbers qs) × (ask qs (refused z) x ≡ refused z m)) → ⊥
-    go (inl h) = let w = ap (λ (s : Step). s.refusal) h.1 in absurd (omega arith)
-    go (inr (m, among, h)) = not-among m 20 (numbers qs) among l (sym (ap (λ (s : Step). s.refusal) h) ∙ e)
+    go (inl h) = let w = ap (λ (s : StepAnswer). s.refusal) h.1 in absurd (omega arith)
+    go (inr (m, among, h)) = not-among m 20 (numbers qs) among l (sym (ap (λ (s : StepAnswer). s.refusal) h) ∙ e)
 
 sent-not-20 : (z : Zone) (to cars : ℕ) → (send_step z to cars).refusal ≢ 20
 unfolding send_step
@@ -132,7 +132,7 @@ unfolding gate_step
 left-not-20 z cars = not-asked (gate_asks z Out cars) z _ refl refl
 
 -- Question 20 behind 1, another and 6: it is not refused with where it is answered yes behind the first two.
-asked-last : (z : Zone) (n : ℕ) → n ≢ 20 → (p q r t : Bool) → (p ≡ true → q ≡ true → t ≡ true) → (x : Step) → x.refusal ≡ 0
+asked-last : (z : Zone) (n : ℕ) → n ≢ 20 → (p q r t : Bool) → (p ≡ true → q ≡ true → t ≡ true) → (x : StepAnswer) → x.refusal ≡ 0
     → (ask (question 1 p ∷ question n q ∷ question 6 r ∷ question 20 t ∷ []) (refused z) x).refusal ≢ 20
 asked-last z n ne false q r t h x a e = absurd (omega arith)
 asked-last z n ne true false r t h x a e = ne e

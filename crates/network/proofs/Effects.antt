@@ -26,7 +26,7 @@ use Rattle.rules.proofs.ShownCheckpoint.{shown, after-shown}
 use Rattle.rules.proofs.Tests.{and_left, and_right, both_true}
 use Rattle.local.specs.Requesting.{requesting_as, requested_by, started_by}
 use Rattle.zone.specs.Zone.{local_of, is_zone_sound, requesting_step, send_step, receive_step, request_step, start_step, gate_step}
-use Rattle.zone.specs.declared.Step.{Step}
+use Rattle.zone.specs.Answer.{StepAnswer}
 use Rattle.zone.specs.declared.Zone.{Zone}
 use Rattle.network.specs.Network.{Network, take_step, answer, is_accepted, stored, stored_if, made}
 use Rattle.network.specs.Polls.{step_of, targets_of, begins_with_request, takes_request}
@@ -42,7 +42,7 @@ requests_on (request set ∷ l) = suc (requests_on l)
 
 -- What is true of the answer x of zone z to an accepted step; turning: it is a start or takes a request, by which a zone that is not
 -- permanent turns so ("firm").
-record Answered (z : Zone) (turning : Bool) (x : Step) : Type 0 where
+record Answered (z : Zone) (turning : Bool) (x : StepAnswer) : Type 0 where
   to-within : x.to < 2 ^ z.count
   shown-kept : (is_permanent z.checkpoint ≡ true) ⊎ (turning ≡ false) → shown x.zone.checkpoint ≡ shown z.checkpoint
   none-sent : turning ≡ false → x.to ≡ nobody
@@ -119,7 +119,7 @@ abbrev pub turning : Call → Network → Bool
 turning c net = is_start c || takes_request c net
 
 -- The same of what is answered to a call: a receipt from an empty channel has no answer.
-abbrev AnsweredBy : Zone → Bool → Option Step → Type 0
+abbrev AnsweredBy : Zone → Bool → Option StepAnswer → Type 0
 AnsweredBy z t none = Unit {0}
 AnsweredBy z t (some x) = eqb x.refusal 0 ≡ true → Answered z t x
 
@@ -183,7 +183,7 @@ first-leaves true (message c f ∷ l) = omega arith
 first-leaves true (request q ∷ l) = omega arith
 
 -- The answer x is stored.
-module _ (net : Network) (x : Step) where
+module _ (net : Network) (x : StepAnswer) where
   stored-zone : (c : Call) (k : ℕ) → (stored c x net).zone k ≡ on (eqb k (step_of c)) (λ z. x.zone) (net.zone k)
   stored-zone (send a b cars) k = refl
   stored-zone (receive a b) k = refl
@@ -241,12 +241,12 @@ turns c net = is_accepted (answer c net) && turning c net
 pub effect : (c : Call) (net : Network) → Effect c net (made c net) (sends_to c net) (took_request c net) (turns c net)
 effect c net = go (answer c net) (answered c net)
   where
-    by : (x : Step) (p : Bool) → (p ≡ true → Answered (net.zone (step_of c)) (turning c net) x)
+    by : (x : StepAnswer) (p : Bool) → (p ≡ true → Answered (net.zone (step_of c)) (turning c net) x)
         → Effect c net (on p (stored c x) net) (cond p x.to nobody) (p && takes_request c net) (p && turning c net)
     by x true f = accepted-effect net x c (f refl)
     by x false f = refused-effect c net
 
-    go : (o : Option Step) → AnsweredBy (net.zone (step_of c)) (turning c net) o
+    go : (o : Option StepAnswer) → AnsweredBy (net.zone (step_of c)) (turning c net) o
         → Effect c net (stored_if c o net) (cond (is_accepted o) (targets_of o) nobody) (is_accepted o && takes_request c net)
         (is_accepted o && turning c net)
     go none f = refused-effect c net

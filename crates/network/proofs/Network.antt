@@ -27,7 +27,7 @@ use Rattle.rules.proofs.Kept.{Fresh, fresh-open, fresh-call}
 use Rattle.rules.proofs.Consistency.{consistent}
 use Rattle.local.specs.Requesting.{requesting_as, requested_by, started_by}
 use Rattle.zone.specs.Zone.{local_of, with_local, is_zone_sound, is_other, accepted, requesting_step, send_step, receive_step, request_step, start_step, gate_step}
-use Rattle.zone.specs.declared.Step.{Step}
+use Rattle.zone.specs.Answer.{StepAnswer}
 use Rattle.zone.specs.declared.Zone.{Zone}
 use Rattle.zone.proofs.Asks.{send_asks, receive_asks, request_asks, start_asks, passed}
 use Rattle.zone.proofs.Gates.{gate-answer, gate-covered, gate-from-three}
@@ -112,7 +112,7 @@ targets-channel b i j to set l = go (eqb to 0) refl
 pub refused-kept : (c : Call) (net : Network) → is_accepted (answer c net) ≡ false → made c net ≡ net
 refused-kept c net = go (answer c net)
   where
-    go : (o : Option Step) → is_accepted o ≡ false → stored_if c o net ≡ net
+    go : (o : Option StepAnswer) → is_accepted o ≡ false → stored_if c o net ≡ net
     go none e = refl
     go (some x) e = on-false (eqb x.refusal 0) (stored c x) net e
 
@@ -122,7 +122,7 @@ module _ (edition : ℕ) where
   sent-site : (net : Network) → InEdition edition net → (a b cars : ℕ) → eqb (send_step (net.zone a) (b + 1) cars).refusal 0 ≡ true
       → network_site edition (stored (send a b cars) (send_step (net.zone a) (b + 1) cars) net) ≡ send_s a b cars (network_site edition net)
   sent-site net same a b cars e =
-      ap (λ (x : Step). network_site edition (stored (send a b cars) x net)) (send-step (net.zone a) (b + 1) cars e).0
+      ap (λ (x : StepAnswer). network_site edition (stored (send a b cars) x net)) (send-step (net.zone a) (b + 1) cars e).0
       ∙ site≡ _ _ refl (changed net a _ (sent_under edition cars) (ap (λ (n : ℕ). sent_under n cars (local_of (net.zone a))) (same a)))
       (λ i j. refl)
 
@@ -131,7 +131,7 @@ module _ (edition : ℕ) where
       → eqb (receive_step (net.zone b) (a + 1) cars flag).refusal 0 ≡ true
       → network_site edition (stored (receive a b) (receive_step (net.zone b) (a + 1) cars flag) net) ≡ receive_s a b cars flag (network_site edition net)
   received-site net same a b cars flag e =
-      ap (λ (x : Step). network_site edition (stored (receive a b) x net)) (receive-step (net.zone b) (a + 1) cars flag e).0
+      ap (λ (x : StepAnswer). network_site edition (stored (receive a b) x net)) (receive-step (net.zone b) (a + 1) cars flag e).0
       ∙ site≡ _ _ refl
       (changed net b _ (received_under edition a cars flag)
       (ap (λ (n : ℕ). received_under n (index (a + 1)) cars flag (local_of (net.zone b))) (same b)
@@ -155,7 +155,7 @@ module _ (edition : ℕ) where
       → network_site edition (stored (receive a b) (request_step (net.zone b) set) net) ≡ request_s a b set (network_site edition net)
   unfolding requested_by
   requested-site net a b set num e =
-      ap (λ (x : Step). network_site edition (stored (receive a b) x net)) (request-step (net.zone b) set e).0
+      ap (λ (x : StepAnswer). network_site edition (stored (receive a b) x net)) (request-step (net.zone b) set e).0
       ∙ go (is_permanent (net.zone b).checkpoint)
     where
       go : (p : Bool)
@@ -178,13 +178,13 @@ module _ (edition : ℕ) where
       → network_site edition (stored (start a) (start_step (net.zone a)) net) ≡ start_s a (network_site edition net)
   unfolding started_by
   started-site net a num e =
-      ap (λ (x : Step). network_site edition (stored (start a) x net)) (start-step (net.zone a) e).0 ∙ requests-site net a nobody started (num a)
+      ap (λ (x : StepAnswer). network_site edition (stored (start a) x net)) (start-step (net.zone a) e).0 ∙ requests-site net a nobody started (num a)
 
   -- Cars go through a gate.
   gated-site : (net : Network) (d : Direction) (a cars : ℕ) → eqb (gate_step (net.zone a) d cars).refusal 0 ≡ true
       → network_site edition (stored (gate d a cars) (gate_step (net.zone a) d cars) net) ≡ gate_s d a cars (network_site edition net)
   gated-site net d a cars e =
-      ap (λ (x : Step). network_site edition (stored (gate d a cars) x net)) (gate-step (net.zone a) d cars e).0
+      ap (λ (x : StepAnswer). network_site edition (stored (gate d a cars) x net)) (gate-step (net.zone a) d cars e).0
       ∙ site≡ _ _ refl (changed net a _ (gated d cars) refl) (λ i j. refl)
 
   -- An accepted call does to the network what the rules say of the site that it stands for.
@@ -228,14 +228,14 @@ shows (gate d a cars) net e = (gate-step (net.zone a) d cars e).1
 -- What no step changes of a zone, such as its number and the count, no call changes.
 module _ (f : Zone → ℕ) (fixed : (z : Zone) (l : Local) → f (with_local z l) ≡ f z)
     (g : ℕ → ℕ) (net : Network) (now : (k : ℕ) → f (net.zone k) ≡ g k) where
-  zone-kept : (a : ℕ) (x : Step) (l : Local) (e : x.zone ≡ with_local (net.zone a) l) (k : ℕ)
+  zone-kept : (a : ℕ) (x : StepAnswer) (l : Local) (e : x.zone ≡ with_local (net.zone a) l) (k : ℕ)
       → f (on (eqb k a) (λ y. x.zone) (net.zone k)) ≡ g k
   zone-kept a x l e k =
       on-same-at f (eqb k a) (λ y. x.zone) (net.zone k)
       (λ q. ap f e ∙ fixed (net.zone a) l ∙ ap (λ (i : ℕ). f (net.zone i)) (sym (eqb-true k a q)))
       ∙ now k
 
-  kept_if : (c : Call) (x : Step) → (eqb x.refusal 0 ≡ true → (k : ℕ) → f ((stored c x net).zone k) ≡ g k)
+  kept_if : (c : Call) (x : StepAnswer) → (eqb x.refusal 0 ≡ true → (k : ℕ) → f ((stored c x net).zone k) ≡ g k)
       → (k : ℕ) → f ((stored_if c (some x) net).zone k) ≡ g k
   kept_if c x h = go (eqb x.refusal 0) refl
     where
@@ -247,7 +247,7 @@ module _ (f : Zone → ℕ) (fixed : (z : Zone) (l : Local) → f (with_local z 
   call-keeps (send a b cars) =
       let x = send_step (net.zone a) (b + 1) cars in
       kept_if (send a b cars) x
-      (λ e. zone-kept a x _ (ap (λ (x : Step). x.zone) (send-step (net.zone a) (b + 1) cars e).0))
+      (λ e. zone-kept a x _ (ap (λ (x : StepAnswer). x.zone) (send-step (net.zone a) (b + 1) cars e).0))
   call-keeps (receive a b) = go (net.channel a b)
     where
       go : (l : List Item) (k : ℕ) → f ((stored_if (receive a b) (take_step (a + 1) l (net.zone b)) net).zone k) ≡ g k
@@ -255,16 +255,16 @@ module _ (f : Zone → ℕ) (fixed : (z : Zone) (l : Local) → f (with_local z 
       go (message cars flag ∷ l) =
           let x = receive_step (net.zone b) (a + 1) cars flag in
           kept_if (receive a b) x
-          (λ e. zone-kept b x _ (ap (λ (x : Step). x.zone) (receive-step (net.zone b) (a + 1) cars flag e).0))
+          (λ e. zone-kept b x _ (ap (λ (x : StepAnswer). x.zone) (receive-step (net.zone b) (a + 1) cars flag e).0))
       go (request set ∷ l) =
           let x = request_step (net.zone b) set in
-          kept_if (receive a b) x (λ e. zone-kept b x _ (ap (λ (x : Step). x.zone) (request-step (net.zone b) set e).0))
+          kept_if (receive a b) x (λ e. zone-kept b x _ (ap (λ (x : StepAnswer). x.zone) (request-step (net.zone b) set e).0))
   call-keeps (start a) =
       let x = start_step (net.zone a) in
-      kept_if (start a) x (λ e. zone-kept a x _ (ap (λ (x : Step). x.zone) (start-step (net.zone a) e).0))
+      kept_if (start a) x (λ e. zone-kept a x _ (ap (λ (x : StepAnswer). x.zone) (start-step (net.zone a) e).0))
   call-keeps (gate d a cars) =
       let x = gate_step (net.zone a) d cars in
-      kept_if (gate d a cars) x (λ e. zone-kept a x _ (ap (λ (x : Step). x.zone) (gate-step (net.zone a) d cars e).0))
+      kept_if (gate d a cars) x (λ e. zone-kept a x _ (ap (λ (x : StepAnswer). x.zone) (gate-step (net.zone a) d cars e).0))
 
 pub numbered : (net : Network) → Numbered net → (c : Call) → Numbered (made c net)
 numbered net num c = call-keeps (λ z. z.number) (λ z l. refl) (λ k. k + 1) net num c

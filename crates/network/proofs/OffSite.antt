@@ -12,7 +12,7 @@ use Rattle.rules.specs.Questions.{question, is_count, is_on}
 use Rattle.rules.specs.Site.{Item, message, request, Call, send, receive, start, gate}
 use Rattle.rules.specs.declared.Direction.{Direction}
 use Rattle.zone.specs.Zone.{is_zone_sound, opened_zone, open_zone, send_step, receive_step, request_step, start_step, gate_step}
-use Rattle.zone.specs.declared.ZoneOpened.{ZoneOpened}
+use Rattle.zone.specs.Answer.{OpeningAnswer}
 use Rattle.zone.specs.declared.Zone.{Zone}
 use Rattle.zone.proofs.Asks.{ask-accepted}
 use Rattle.network.specs.Network.{Network, open_network, take_step, answer, is_accepted, made, after}
@@ -23,8 +23,8 @@ use Rattle.network.proofs.Network.{Numbered, numbered, call-keeps}
 pub opened-zone : (n : ℕ) (o : Opening) (k : ℕ) → (open_zone o.edition n (k + 1) (o.stocks k)).refusal ≡ 0
     → (open_zone o.edition n (k + 1) (o.stocks k)).zone ≡ (open_network n o).zone k
 unfolding open_zone
-opened-zone n o k e = ap (λ (x : ZoneOpened). x.zone)
-    (ask-accepted (λ (x : ZoneOpened). x.refusal)
+opened-zone n o k e = ap (λ (x : OpeningAnswer). x.zone)
+    (ask-accepted (λ (x : OpeningAnswer). x.refusal)
     (question 15 (is_edition o.edition) ∷ question 2 (is_count n) ∷ question 5 (is_on n (k + 1)) ∷ [])
     (λ m. record { refusal = m; zone = opened_zone first_edition 2 1 0 })
     (record { refusal = 0; zone = opened_zone o.edition n (k + 1) (o.stocks k) })

@@ -7,7 +7,7 @@ use Rattle.rules.specs.Sets.{nobody, size}
 use Rattle.rules.specs.Site.{Item, message, request, Site, Call, send, receive, start, gate}
 use Rattle.rules.specs.Zone.{is_permanent}
 use Rattle.zone.specs.Zone.{local_of}
-use Rattle.zone.specs.declared.Step.{Step}
+use Rattle.zone.specs.Answer.{StepAnswer}
 use Rattle.zone.specs.declared.Zone.{Zone}
 use Rattle.network.specs.Network.{Network, answer, is_accepted, made, after}
 
@@ -20,7 +20,7 @@ step_of (gate d a cars) = a
 
 -- Zone k's counter of requests sent grows, with each accepted step of the zone, by the number of zones in the answer's set; `requests`
 -- of the zone part gives it.
-abbrev pub targets_of : Option Step → ℕ
+abbrev pub targets_of : Option StepAnswer → ℕ
 targets_of none = nobody
 targets_of (some x) = x.to
 

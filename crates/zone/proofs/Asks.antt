@@ -14,7 +14,7 @@ use Rattle.rules.specs.Zone.{has_checkpoint}
 use Rattle.rules.specs.declared.Direction.{Direction}
 use Rattle.rules.proofs.AskLaws.{AllYes, numbers, lacks, not-among, ask-cases}
 use Rattle.zone.specs.Zone.{is_zone_sound, is_other, has_room, refused, last_gate_question}
-use Rattle.zone.specs.declared.Step.{Step}
+use Rattle.zone.specs.Answer.{StepAnswer}
 use Rattle.zone.specs.declared.Zone.{Zone}
 
 abbrev pub send_asks : Zone → ℕ → ℕ → List Question
@@ -44,6 +44,6 @@ ask-accepted {A} number qs f x named n e = go (ask-cases qs f x)
     go (inl h) = h
     go (inr (m, a, q)) = absurd (not-among m 0 (numbers qs) a n (sym (named m) ∙ sym (ap number q) ∙ e))
 
-pub passed : (qs : List Question) (z : Zone) (x : Step) → lacks 0 (numbers qs) ≡ true → eqb (ask qs (refused z) x).refusal 0 ≡ true
+pub passed : (qs : List Question) (z : Zone) (x : StepAnswer) → lacks 0 (numbers qs) ≡ true → eqb (ask qs (refused z) x).refusal 0 ≡ true
     → AllYes qs × (ask qs (refused z) x ≡ x)
-passed qs z x n e = ask-accepted (λ (s : Step). s.refusal) qs (refused z) x (λ m. refl) n (eqb-true (ask qs (refused z) x).refusal 0 e)
+passed qs z x n e = ask-accepted (λ (s : StepAnswer). s.refusal) qs (refused z) x (λ m. refl) n (eqb-true (ask qs (refused z) x).refusal 0 e)

@@ -8,12 +8,12 @@ use Rattle.rules.specs.Questions.{Question, ask, index}
 use Rattle.rules.specs.declared.Direction.{Direction}
 use Rattle.rules.proofs.Editions.{check-traffic, sent-check, received-check}
 use Rattle.zone.specs.Zone.{local_of, with_local, refused, send_step, receive_step, request_step, start_step, gate_step}
-use Rattle.zone.specs.declared.Step.{Step}
+use Rattle.zone.specs.Answer.{StepAnswer}
 use Rattle.zone.specs.declared.Zone.{Zone}
 use Rattle.zone.proofs.Asks.{send_asks, receive_asks, request_asks, start_asks, gate_asks}
 
 -- What an accepted step keeps of the zone, the step keeps, whatever its questions.
-pub step_keeps : {A : Type 0} (f : Zone → A) (qs : List Question) (z : Zone) (x : Step) → f x.zone ≡ f z
+pub step_keeps : {A : Type 0} (f : Zone → A) (qs : List Question) (z : Zone) (x : StepAnswer) → f x.zone ≡ f z
     → f (ask qs (refused z) x).zone ≡ f z
 step_keeps f [] z x e = e
 step_keeps {A} f (q ∷ qs) z x e = go q.yes (step_keeps f qs z x e)

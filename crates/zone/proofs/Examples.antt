@@ -12,15 +12,15 @@ use Rattle.rules.specs.Edition.{first_edition}
 use Rattle.rules.specs.Sets.{size}
 use Rattle.zone.specs.Zone.{open_zone, send_step, receive_step, request_step, start_step, gate_step, next_target}
 use Rattle.zone.specs.declared.Zone.{Zone}
-use Rattle.zone.specs.declared.Step.{Step}
-use Rattle.zone.specs.declared.ZoneOpened.{ZoneOpened}
+use Rattle.zone.specs.Answer.{StepAnswer}
+use Rattle.zone.specs.Answer.{OpeningAnswer}
 use Rattle.zone.proofs.Checks.{after_checks, checks-kept}
 use Rattle.zone.proofs.Computed.{zone_computed}
 
 -- What the zone part answers: an opening, a step, or a number of a set of zones.
 pub data Reply : Type 0 where
-  opening : ZoneOpened → Reply
-  step : Step → Reply
+  opening : OpeningAnswer → Reply
+  step : StepAnswer → Reply
   of_set : ℕ → Reply
 
 pub record Row : Type 0 where
@@ -55,18 +55,18 @@ abbrev pub saved : ℕ → ℕ → Saved
 saved stock events = record { stock = stock; events = events }
 
 -- An opening, with the refusal's number and the zone.
-abbrev pub opens : ZoneOpened → ℕ → Zone → Row
+abbrev pub opens : OpeningAnswer → ℕ → Zone → Row
 opens o n z = record { answer = opening o; expected = opening (record { refusal = n; zone = z }) }
 
 -- A step, with the refusal's number, the zone, the flag, the request targets and the set carried.
-abbrev pub gives : Step → ℕ → Zone → Bool → ℕ → ℕ → Row
+abbrev pub gives : StepAnswer → ℕ → Zone → Bool → ℕ → ℕ → Row
 gives s n z flag to carried = record {
   answer = step s;
   expected = step (record { refusal = n; zone = z; flag = flag; to = to; carried = carried });
 }
 
 -- A step that is refused, with the refusal's number: the zone unchanged, flag and sets 0.
-abbrev pub refuses : (Zone → Step) → Zone → ℕ → Row
+abbrev pub refuses : (Zone → StepAnswer) → Zone → ℕ → Row
 refuses s z n = gives (s z) n z false 0 0
 
 -- A set, with the number of requests to be sent to it; and one with its next zone.

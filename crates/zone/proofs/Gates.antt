@@ -14,13 +14,13 @@ use Rattle.rules.specs.declared.Direction.TheVariants.{In, Out}
 use Rattle.rules.proofs.AskLaws.{AllYes, numbers, lacks}
 use Rattle.rules.proofs.Editions.{no-gates}
 use Rattle.zone.specs.Zone.{local_of, with_local, is_zone_sound, refused, accepted, last_gate_question, gate_step}
-use Rattle.zone.specs.declared.Step.{Step}
+use Rattle.zone.specs.Answer.{StepAnswer}
 use Rattle.zone.specs.declared.Zone.{Zone}
 use Rattle.zone.proofs.Asks.{gate_asks, passed}
 use Rattle.zone.proofs.Checks.{step_keeps}
 
 module _ (z : Zone) (d : Direction) (cars : ℕ) where
-  abbrev step : Step
+  abbrev step : StepAnswer
   step = gate_step z d cars
 
   -- "does the run's edition have gates?" Below edition 3 the step of a sound zone is refused with 15, and hands the zone back as it was.
@@ -67,17 +67,17 @@ module _ (z : Zone) (d : Direction) (cars : ℕ) where
 
     -- "It is an own event, also with 0 cars, and changes that zone's stock by a signed amount."
     pub gate-event : step.zone.events ≡ z.events + 1
-    gate-event = ap (λ (s : Step). s.zone.events) gate-answer
+    gate-event = ap (λ (s : StepAnswer). s.zone.events) gate-answer
 
     pub gate-stock : step.zone.stock ≡ through d cars z.stock
-    gate-stock = ap (λ (s : Step). s.zone.stock) gate-answer
+    gate-stock = ap (λ (s : StepAnswer). s.zone.stock) gate-answer
 
     -- It sends nothing: no message with a flag, and no request.
     pub gate-flag : step.flag ≡ false
-    gate-flag = ap (λ (s : Step). s.flag) gate-answer
+    gate-flag = ap (λ (s : StepAnswer). s.flag) gate-answer
 
     pub gate-to : step.to ≡ nobody
-    gate-to = ap (λ (s : Step). s.to) gate-answer
+    gate-to = ap (λ (s : StepAnswer). s.to) gate-answer
 
     pub gate-carried : step.carried ≡ nobody
-    gate-carried = ap (λ (s : Step). s.carried) gate-answer
+    gate-carried = ap (λ (s : StepAnswer). s.carried) gate-answer

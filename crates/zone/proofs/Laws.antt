@@ -19,7 +19,7 @@ use Rattle.rules.proofs.AskLaws.{AllYes, numbers, lacks, ask-yes, ask-behind, al
 use Rattle.rules.proofs.QuestionLaws.{count-high, on-low, on-high}
 use Rattle.rules.proofs.Tests.{and_left, and_right}
 use Rattle.zone.specs.Zone.{local_of, with_local, is_other, is_zone_sound, has_room, refused, accepted, last_gate_question, gate_step}
-use Rattle.zone.specs.declared.Step.{Step}
+use Rattle.zone.specs.Answer.{StepAnswer}
 use Rattle.zone.specs.declared.Zone.{Zone}
 
 -- A zone's number on a site is 1 to 8.
@@ -73,7 +73,7 @@ module _ (z : Zone) (d : Direction) (cars last : ℕ) (sound : is_zone_sound z �
       nonzero In = refl
       nonzero Out = refl
 
-  pub gate-refused : (x : Step) → x ≡ refused z last → last ≢ 0 → x ≡ gate_step z d cars
+  pub gate-refused : (x : StepAnswer) → x ≡ refused z last → last ≢ 0 → x ≡ gate_step z d cars
   gate-refused x e h =
       e ∙ ap (refused z) asks ∙ sym (ask-refused (last_gate_question d cars z.stock ∷ []) (refused z) _ (λ q. h (asks ∙ q))) ∙ behind-6
 

@@ -9,7 +9,7 @@ use borrow.Author.Tests.{eqb-true, eqb-false, ltb-false}
 use Rattle.rules.specs.declared.Saved.{Saved}
 use Rattle.rules.specs.declared.Checkpoint.TheVariants.{None, Mutable, Permanent}
 use Rattle.zone.specs.Zone.{send_step, receive_step}
-use Rattle.zone.specs.declared.Step.{Step}
+use Rattle.zone.specs.Answer.{StepAnswer}
 use Rattle.zone.proofs.Checks.{send-check, receive-check}
 use Rattle.zone_c.specs.Plain.{mark_of, zone_of, plain_of, kind_of, saved_of, answer_plain, if_kind, send_plain, receive_plain}
 use Rattle.zone_c.specs.declared.PlainSaved.{PlainSaved}
@@ -59,7 +59,7 @@ module _ (p : PlainZone) where
   tidied-is : ltb 2 p.mark ≡ false → plain_of (zone_of p) ≡ tidied p
   tidied-is low = rw (kind-is p.mark p.saved low, saved-is p.mark p.saved)
 
-  unchanged : (s : Step) → s.zone ≡ zone_of p → Unchanged p (if_kind p (answer_plain p s))
+  unchanged : (s : StepAnswer) → s.zone ≡ zone_of p → Unchanged p (if_kind p (answer_plain p s))
   unfolding answer_plain
   unchanged s e = go (ltb 2 p.mark) (eqb s.refusal 0) refl refl
     where

@@ -12,7 +12,7 @@ use Rattle.rules.specs.declared.Checkpoint.{Checkpoint}
 use Rattle.rules.specs.declared.Checkpoint.TheVariants.{None, Mutable, Permanent}
 use Rattle.rules.specs.declared.Direction.{Direction}
 use Rattle.zone.specs.Zone.{is_zone_sound, is_other, has_room, refused, send_step, receive_step, request_step, start_step, last_gate_question, gate_step}
-use Rattle.zone.specs.declared.Step.{Step}
+use Rattle.zone.specs.Answer.{StepAnswer}
 use Rattle.zone.specs.declared.Zone.{Zone}
 use Rattle.zone_c.specs.Plain.{mark_of, zone_of, kind_of, saved_of, plain_of, plain_step, answer_plain, send_plain, receive_plain, request_plain, start_plain, gate_plain}
 
@@ -32,7 +32,7 @@ pub zone-back : (z : Zone) → zone_of (plain_of z) ≡ z
 zone-back z = rw (mark-back z.checkpoint)
 
 -- The answer for C of a step on a zone's own struct is the whole answer of the step.
-record Told (z : Zone) (s : Step) : Type 0 where
+record Told (z : Zone) (s : StepAnswer) : Type 0 where
   is : answer_plain (plain_of z) s ≡ plain_step s
 
 told-refused : (z : Zone) (n : ℕ) → Told z (refused z n)
@@ -43,12 +43,12 @@ told-refused z n = record { is = go (eqb n 0) refl }
     go true e = rw (eqb-true n 0 e)
     go false e = rw e
 
-told-accepted : (z : Zone) (s : Step) → s.refusal ≡ 0 → Told z s
+told-accepted : (z : Zone) (s : StepAnswer) → s.refusal ≡ 0 → Told z s
 unfolding answer_plain
 told-accepted z s e = record { is = rw e }
 
 -- One question more before it.
-told-if : (z : Zone) (b : Bool) (s : Step) (n : ℕ) → Told z s → Told z (cond b s (refused z n))
+told-if : (z : Zone) (b : Bool) (s : StepAnswer) (n : ℕ) → Told z s → Told z (cond b s (refused z n))
 told-if z true s n h = h
 told-if z false s n h = told-refused z n
 

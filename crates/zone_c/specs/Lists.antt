@@ -3,7 +3,7 @@
 use Rattle.std.specs.Prelude.{not, List, [], ◌∷◌, ℕ, eqb}
 use Rattle.rules.specs.declared.Direction.{Direction}
 use Rattle.zone.specs.Zone.{send_step, receive_step, request_step, start_step, gate_step}
-use Rattle.zone.specs.declared.Step.{Step}
+use Rattle.zone.specs.Answer.{StepAnswer}
 use Rattle.zone.specs.declared.Zone.{Zone}
 use Rattle.zone_c.specs.Plain.{send_plain, receive_plain, request_plain, start_plain, gate_plain}
 use Rattle.zone_c.specs.declared.PlainStep.{PlainStep}
@@ -18,7 +18,7 @@ pub data ZoneCall : Type 0 where
   Gate : (direction : Direction) (cars : ℕ) → ZoneCall
 
 -- What the zone part answers: any flag but 0 counts as 1.
-abbrev pub answer : ZoneCall → Zone → Step
+abbrev pub answer : ZoneCall → Zone → StepAnswer
 answer (Send to cars) z = send_step z to cars
 answer (Receive from cars flag) z = receive_step z from cars (not (eqb flag 0))
 answer (Request set) z = request_step z set
@@ -34,7 +34,7 @@ call_plain Start p = start_plain p
 call_plain (Gate direction cars) p = gate_plain p direction cars
 
 -- The answers to a list of calls.
-abbrev pub answers : List ZoneCall → Zone → List Step
+abbrev pub answers : List ZoneCall → Zone → List StepAnswer
 answers [] z = []
 answers (c ∷ cs) z = answer c z ∷ answers cs (answer c z).zone
 

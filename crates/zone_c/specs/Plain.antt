@@ -1,10 +1,12 @@
 -- The zone part over a plain struct: each call is the zone part's step between two conversions.
-use Rattle.std.specs.Prelude.{Bool, true, false, cond, not, ℕ, ltb, eqb}
+use Rattle.std.specs.Prelude.{Bool, true, false, cond, not, ℕ, ltb, eqb, Ok, Err, Result}
+use Rattle.questions.specs.declared.Refusal.{Refusal}
+use Rattle.questions.specs.declared.Refusal.TheVariants.{Unsound}
 use Rattle.rules.specs.declared.Checkpoint.{Checkpoint}
 use Rattle.rules.specs.declared.Checkpoint.TheVariants.{None, Mutable, Permanent}
 use Rattle.rules.specs.declared.Direction.{Direction}
 use Rattle.zone.specs.Zone.{open_zone, send_step, receive_step, request_step, start_step, gate_step}
-use Rattle.zone.specs.declared.Step.{Step}
+use Rattle.zone.specs.Answer.{StepAnswer}
 use Rattle.zone.specs.declared.Zone.{Zone}
 use Rattle.zone_c.specs.declared.PlainOpening.{PlainOpening}
 use Rattle.zone_c.specs.declared.PlainSaved.{PlainSaved}
@@ -27,6 +29,10 @@ zone_of p = record {
   events = p.events;
   checkpoint = mark_of p.mark p.saved;
 }
+
+-- What C's struct stands for: a zone, or, with a mark kind above 2, none.
+abbrev pub zone_if : PlainZone → Result Zone Refusal
+zone_if p = cond (ltb 2 p.mark) (Err Unsound) (Ok (zone_of p))
 
 abbrev pub kind_of : Checkpoint → ℕ
 kind_of None = 0
@@ -58,14 +64,14 @@ flag_of false = 0
 abbrev pub refused_plain : PlainZone → ℕ → PlainStep
 refused_plain p n = record { zone = p; refusal = n; flag = 0; to = 0; carried = 0 }
 
-unfoldable pub answer_plain : PlainZone → Step → PlainStep
+unfoldable pub answer_plain : PlainZone → StepAnswer → PlainStep
 answer_plain p s =
     cond (eqb s.refusal 0)
     (record { zone = plain_of s.zone; refusal = 0; flag = flag_of s.flag; to = s.to; carried = s.carried })
     (refused_plain p s.refusal)
 
 -- A whole answer of the zone part, as C gets it.
-abbrev pub plain_step : Step → PlainStep
+abbrev pub plain_step : StepAnswer → PlainStep
 plain_step s = record { zone = plain_of s.zone; refusal = s.refusal; flag = flag_of s.flag; to = s.to; carried = s.carried }
 
 -- A mark kind above 2 is unsound: question 1 is answered no.

@@ -1,19 +1,22 @@
 // The zone part for C: the same steps over a plain struct, since an enum is not exported. The header is c/cut/zone.h; zone_exports gives each
-// call its name there. A mark kind above 2 is unsound and meets 1; a refused struct comes back equal in every field.
+// call its name there. A refusal goes to C by its number. A mark kind above 2 is unsound and meets 1; a refused struct comes back equal in
+// every field.
 
 #![tactic(auto, unfolding(crate::specs::Plain::mark_of, crate::specs::Plain::answer_plain, crate::specs::Plain::send_plain, crate::specs::Plain::receive_plain, crate::specs::Plain::request_plain, crate::specs::Plain::start_plain, crate::specs::Plain::gate_plain))]
 
 ghost use Rattle.std.specs.Prelude.{◌≡◌};
 ghost use Rattle.rules.specs.Sets.{size};
 ghost use Rattle.rules.specs.declared.Direction.TheVariants.{In, Out};
+ghost use Rattle.questions.specs.Refusal.{number_of};
+ghost use Rattle.zone.specs.Answer.{step_answer};
 ghost use Rattle.zone.specs.Zone.{next_target};
+ghost use Rattle.zone.specs.declared.Zone.{Zone};
 ghost use Rattle.zone_c.specs.Plain.{
   mark_of,
-  zone_of,
   kind_of,
   saved_of,
   plain_of,
-  flag_of,
+  zone_if,
   refused_plain,
   answer_plain,
   open_plain,
@@ -24,6 +27,7 @@ ghost use Rattle.zone_c.specs.Plain.{
   gate_plain,
 };
 
+use questions::Refusal;
 use rules::{Checkpoint, Saved};
 use zone::{Step, Zone};
 
@@ -69,38 +73,36 @@ pub struct PlainStep {
     pub carried: u8,
 }
 
+impl From<PlainSaved> for Saved {
+    ghost from_gives = { λ p s. s ≡ record { stock = p.stock; events = p.events } };
+
+    fn from(saved: PlainSaved) -> Saved {
+        Saved {
+            stock: saved.stock,
+            events: saved.events,
+        }
+    }
+}
+
+impl From<Saved> for PlainSaved {
+    ghost from_gives = { λ s p. p ≡ record { stock = s.stock; events = s.events } };
+
+    fn from(saved: Saved) -> PlainSaved {
+        PlainSaved {
+            stock: saved.stock,
+            events: saved.events,
+        }
+    }
+}
+
 // The mark of a kind that is 0, 1 or 2; a higher kind is asked about before.
 pub fn mark_of(kind: u32, saved: PlainSaved) -> Checkpoint
     ensures { result ≡ mark_of kind saved }
 {
-    if kind == 0 {
-        return Checkpoint::None;
-    }
-    if kind == 1 {
-        return Checkpoint::Mutable(Saved {
-            stock: saved.stock,
-            events: saved.events,
-        });
-    }
-    Checkpoint::Permanent(Saved {
-        stock: saved.stock,
-        events: saved.events,
-    })
-}
-
-fn zone_of(p: PlainZone) -> Zone
-    ensures { result ≡ zone_of p }
-{
-    let saved = p.saved;
-    let checkpoint = mark_of(p.mark, saved);
-    Zone {
-        edition: p.edition,
-        number: p.number,
-        count: p.count,
-        stock: p.stock,
-        deps: p.deps,
-        events: p.events,
-        checkpoint,
+    match kind {
+        0 => Checkpoint::None,
+        1 => Checkpoint::Mutable(Saved::from(saved)),
+        _ => Checkpoint::Permanent(Saved::from(saved)),
     }
 }
 
@@ -122,72 +124,75 @@ pub fn saved_of(checkpoint: Checkpoint) -> PlainSaved
             stock: 0,
             events: 0,
         },
-        Checkpoint::Mutable(saved) => PlainSaved {
-            stock: saved.stock,
-            events: saved.events,
-        },
-        Checkpoint::Permanent(saved) => PlainSaved {
-            stock: saved.stock,
-            events: saved.events,
-        },
+        Checkpoint::Mutable(saved) | Checkpoint::Permanent(saved) => PlainSaved::from(saved),
     }
 }
 
-fn plain_of(z: Zone) -> PlainZone
-    ensures { result ≡ plain_of z }
-{
-    let checkpoint = z.checkpoint;
-    let mark = kind_of(checkpoint) as u32;
-    let saved = saved_of(checkpoint);
-    PlainZone {
-        number: z.number,
-        count: z.count,
-        deps: z.deps,
-        edition: z.edition,
-        stock: z.stock,
-        events: z.events,
-        saved,
-        mark,
+impl From<Zone> for PlainZone {
+    ghost from_gives = { λ z p. p ≡ plain_of z };
+
+    fn from(zone: Zone) -> PlainZone {
+        PlainZone {
+            number: zone.number,
+            count: zone.count,
+            deps: zone.deps,
+            edition: zone.edition,
+            stock: zone.stock,
+            events: zone.events,
+            saved: saved_of(zone.checkpoint),
+            mark: kind_of(zone.checkpoint) as u32,
+        }
     }
 }
 
-fn flag_of(flag: bool) -> u8
-    ensures { result ≡ flag_of flag }
-{
-    if flag {
-        return 1;
+// A mark kind above 2 is none: the struct stands for no zone, and question 1 is answered no.
+impl TryFrom<PlainZone> for Zone {
+    type Error = Refusal;
+
+    ghost try_from_gives = { λ p r. r ≡ zone_if p };
+
+    fn try_from(p: PlainZone) -> Result<Zone, Refusal> {
+        if 2 < p.mark {
+            return Err(Refusal::Unsound);
+        }
+        Ok(Zone {
+            edition: p.edition,
+            number: p.number,
+            count: p.count,
+            stock: p.stock,
+            deps: p.deps,
+            events: p.events,
+            checkpoint: mark_of(p.mark, p.saved),
+        })
     }
-    0
 }
 
-fn refused(p: PlainZone, n: u8) -> PlainStep
-    ensures { result ≡ refused_plain p n }
+// What a refused call on the plain struct p answers: p as it came.
+fn refused(p: PlainZone, refusal: Refusal) -> PlainStep
+    ensures { result ≡ refused_plain p (number_of refusal) }
 {
     PlainStep {
         zone: p,
-        refusal: n,
+        refusal: refusal.number(),
         flag: 0,
         to: 0,
         carried: 0,
     }
 }
 
-// The answer of a step on the plain struct p: refused, p as it came.
-fn answer(p: PlainZone, s: Step) -> PlainStep
-    ensures { result ≡ answer_plain p s }
+// The answer of a step on the plain struct p.
+fn answer(p: PlainZone, step: Result<Step, Refusal>) -> PlainStep
+    ensures { (z : Zone) → result ≡ answer_plain p (step_answer z step) }
 {
-    if s.refusal != 0 {
-        return refused(p, s.refusal);
-    }
-    let after = s.zone;
-    let zone = plain_of(after);
-    let flag = flag_of(s.flag);
-    PlainStep {
-        zone,
-        refusal: 0,
-        flag,
-        to: s.to,
-        carried: s.carried,
+    match step {
+        Ok(s) => PlainStep {
+            zone: PlainZone::from(s.zone),
+            refusal: 0,
+            flag: s.flag as u8,
+            to: s.to,
+            carried: s.carried,
+        },
+        Err(refusal) => refused(p, refusal),
     }
 }
 
@@ -195,12 +200,15 @@ fn answer(p: PlainZone, s: Step) -> PlainStep
 pub fn cut_zone_open(edition: u8, count: u8, number: u8, stock: u16) -> PlainOpening
     ensures { result ≡ open_plain edition count number stock }
 {
-    let opened = Zone::open(edition, count, number, stock);
-    let after = opened.zone;
-    let zone = plain_of(after);
-    PlainOpening {
-        zone,
-        refusal: opened.refusal,
+    match Zone::open(edition, count, number, stock) {
+        Ok(zone) => PlainOpening {
+            zone: PlainZone::from(zone),
+            refusal: 0,
+        },
+        Err(e) => PlainOpening {
+            zone: PlainZone::from(e.zone),
+            refusal: e.refusal.number(),
+        },
     }
 }
 
@@ -208,60 +216,60 @@ pub fn cut_zone_open(edition: u8, count: u8, number: u8, stock: u16) -> PlainOpe
 pub fn cut_zone_send(p: PlainZone, to: u8, cars: u8) -> PlainStep
     ensures { result ≡ send_plain p to cars }
 {
-    if 2 < p.mark {
-        return refused(p, 1);
+    match Zone::try_from(p) {
+        Ok(zone) => answer(p, zone.send(to, cars)),
+        Err(refusal) => refused(p, refusal),
     }
-    answer(p, zone_of(p).send(to, cars))
 }
 
 // A message ("hand-over") is received from another zone; any flag but 0 counts as 1.
 pub fn cut_zone_receive(p: PlainZone, from: u8, cars: u8, flag: u8) -> PlainStep
     ensures { result ≡ receive_plain p from cars flag }
 {
-    if 2 < p.mark {
-        return refused(p, 1);
+    match Zone::try_from(p) {
+        Ok(zone) => answer(p, zone.receive(from, cars, flag != 0)),
+        Err(refusal) => refused(p, refusal),
     }
-    answer(p, zone_of(p).receive(from, cars, flag != 0))
 }
 
 // A request with its set is received.
 pub fn cut_zone_request(p: PlainZone, set: u8) -> PlainStep
     ensures { result ≡ request_plain p set }
 {
-    if 2 < p.mark {
-        return refused(p, 1);
+    match Zone::try_from(p) {
+        Ok(zone) => answer(p, zone.request(set)),
+        Err(refusal) => refused(p, refusal),
     }
-    answer(p, zone_of(p).request(set))
 }
 
 // A recording is started by this zone.
 pub fn cut_zone_start(p: PlainZone) -> PlainStep
     ensures { result ≡ start_plain p }
 {
-    if 2 < p.mark {
-        return refused(p, 1);
+    match Zone::try_from(p) {
+        Ok(zone) => answer(p, zone.start()),
+        Err(refusal) => refused(p, refusal),
     }
-    answer(p, zone_of(p).start())
 }
 
 // Cars drive in from the street.
 pub fn cut_zone_enter(p: PlainZone, cars: u8) -> PlainStep
     ensures { result ≡ gate_plain p In cars }
 {
-    if 2 < p.mark {
-        return refused(p, 1);
+    match Zone::try_from(p) {
+        Ok(zone) => answer(p, zone.enter(cars)),
+        Err(refusal) => refused(p, refusal),
     }
-    answer(p, zone_of(p).enter(cars))
 }
 
 // Cars drive out to the street.
 pub fn cut_zone_leave(p: PlainZone, cars: u8) -> PlainStep
     ensures { result ≡ gate_plain p Out cars }
 {
-    if 2 < p.mark {
-        return refused(p, 1);
+    match Zone::try_from(p) {
+        Ok(zone) => answer(p, zone.leave(cars)),
+        Err(refusal) => refused(p, refusal),
     }
-    answer(p, zone_of(p).leave(cars))
 }
 
 // The number of requests to be sent to the zones of a set.
@@ -272,8 +280,9 @@ pub fn cut_zone_requests(to: u8) -> u32
 }
 
 // The number of the zone to be sent to next of a set; 0 where it is empty.
+#[tactic(auto, unfolding(zone::specs::Zone::next_target))]
 pub fn cut_zone_next(set: u8) -> u8
     ensures { result ≡ next_target set }
 {
-    zone::next_of(set)
+    zone::next_of(set).unwrap_or(0)
 }

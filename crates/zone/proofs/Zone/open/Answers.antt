@@ -2,5 +2,5 @@
 use Rattle.zone.proofs.Laws.{on-site}
 use Rattle.zone.proofs.Zone.open.Goals as goal
 
-pub opened-requires-2 : goal.opened-requires-2
-opened-requires-2 c = on-site c.args.count c.args.number (cc) (cc)
+pub opened-requires : goal.opened-requires
+opened-requires c = on-site c.args.count c.args.number (cc) (cc)

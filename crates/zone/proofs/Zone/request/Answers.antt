@@ -9,5 +9,5 @@ is_within-requires c = omega (arith, own-count c.args.self (cc))
 pub overflow_sub-self : goal.overflow_sub-self
 overflow_sub-self c = (own-number c.args.self (cc)).0
 
-pub request-requesting-requires : goal.request-requesting-requires
-request-requesting-requires c = omega (arith, own-number c.args.self (cc))
+pub request-requires : goal.request-requires
+request-requires c = omega (arith, own-number c.args.self (cc))

@@ -6,5 +6,5 @@ use Rattle.zone.proofs.Zone.start.Goals as goal
 pub overflow_sub-self : goal.overflow_sub-self
 overflow_sub-self c = (own-number c.args.self (cc)).0
 
-pub start-requesting-requires : goal.start-requesting-requires
-start-requesting-requires c = omega (arith, own-number c.args.self (cc))
+pub start-requires : goal.start-requires
+start-requires c = omega (arith, own-number c.args.self (cc))
