@@ -9,7 +9,7 @@ use Rattle.run.specs.Calls.{answer}
 use Rattle.run.specs.Claims.{Typed, AllTyped}
 use Rattle.run.specs.Lists.{call_of, after, accepted_calls}
 use Rattle.run.specs.declared.Run.{Run}
-use Rattle.run.specs.declared.Answer.{Answer}
+use Rattle.run.specs.Answer.{Answer}
 use Rattle.run.specs.declared.SiteCall.{SiteCall}
 use Rattle.promises.specs.Answers.{Answers}
 use Rattle.demand.specs.Made.{Made, done, then}

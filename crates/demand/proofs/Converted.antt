@@ -14,7 +14,7 @@ use Rattle.run.specs.Calls.{answer, record_of}
 use Rattle.run.specs.Claims.{AllTyped, accepted_records, filled}
 use Rattle.run.specs.Lists.{call_of, is_accepted, after, accepted_calls}
 use Rattle.run.specs.Opening.{terms_as, opening_as, open_call}
-use Rattle.run.specs.declared.Answer.{Answer}
+use Rattle.run.specs.Answer.{Answer}
 use Rattle.run.specs.declared.Opening.{Opening}
 use Rattle.run.specs.declared.Run.{Run}
 use Rattle.run.specs.declared.SiteCall.{SiteCall}
@@ -22,9 +22,9 @@ use Rattle.run.specs.declared.SiteCall.TheVariants.{Send, Receive, Start, Gate}
 use Rattle.journal.specs.Format.{journal_bytes, has_kind, calls_in, record_words, opened_with}
 use Rattle.journal.specs.Reading.{terms_in, records_in, read_call}
 use Rattle.journal.specs.Writing.{Output, refused_output, written_output}
-use Rattle.journal.specs.declared.JournalWritten.{JournalWritten}
-use Rattle.journal.specs.declared.Reading.{Reading}
-use Rattle.journal.specs.declared.Written.{Written}
+use Rattle.journal.specs.Answers.{JournalWritten}
+use Rattle.journal.specs.Answers.{Reading}
+use Rattle.journal.specs.Answers.{Written}
 use Rattle.journal.proofs.Accepted.{read-tells, read-replayed}
 use Rattle.journal.proofs.TrueRuns.{true-tells, true-length, true-read}
 use Rattle.journal.proofs.WrittenBack.{write_bytes}

@@ -12,7 +12,7 @@ use Rattle.run.specs.Claims.{AllTyped, WholeRun, filled}
 use Rattle.run.specs.Lists.{after, accepted_calls}
 use Rattle.run.specs.Opening.{opening_as, open_call}
 use Rattle.run.specs.State.{count_of}
-use Rattle.run.specs.declared.Answer.{Answer}
+use Rattle.run.specs.Answer.{Answer}
 use Rattle.run.specs.declared.Opening.{Opening}
 use Rattle.run.specs.declared.Run.{Run}
 use Rattle.run.specs.declared.SiteCall.{SiteCall}
@@ -21,11 +21,11 @@ use Rattle.words.specs.Bytes.{word_at}
 use Rattle.words.specs.Header.{zones_in}
 use Rattle.journal.specs.Format.{opened_with, record_words}
 use Rattle.journal.specs.Writing.{is_replayed, Output, refused_output, written_output, PositionedOutput, positioned}
-use Rattle.journal.specs.declared.Written.{Written}
+use Rattle.journal.specs.Answers.{Written}
 use Rattle.journal.proofs.TrueRuns.{true-replayed}
 use Rattle.recording.specs.Call.{rule_calls_in, snapshot_of, record_call}
 use Rattle.recording.specs.Shown.{shown_in}
-use Rattle.recording.specs.declared.Recorded.{Recorded}
+use Rattle.recording.specs.Answers.{Recorded}
 use Rattle.recording.proofs.Complete.{complete-if, if-complete}
 use Rattle.recording.proofs.Zones.{site-is}
 use Rattle.page.specs.Call.{page_of, page_call}

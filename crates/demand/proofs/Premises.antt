@@ -22,7 +22,7 @@ use Rattle.run.specs.declared.Terms.{Terms}
 use Rattle.journal.specs.Claims.{case_a}
 use Rattle.journal.specs.Reading.{read_call}
 use Rattle.journal.specs.Writing.{Output, PositionedOutput, write_call}
-use Rattle.journal.specs.declared.Reading.{Reading}
+use Rattle.journal.specs.Answers.{Reading}
 use Rattle.recording.specs.Call.{RecordOutput, record_call}
 use Rattle.recording.specs.Shown.{shown_in}
 use Rattle.text.specs.Codes.{codes}

@@ -8,7 +8,7 @@ use Rattle.rules.specs.Site.{Call, open_s}
 use Rattle.run.specs.Claims.{WholeRun, filled}
 use Rattle.run.specs.Lists.{after, accepted_calls}
 use Rattle.run.specs.Opening.{opening_as, opening_of, open_call}
-use Rattle.run.specs.declared.Answer.{Answer}
+use Rattle.run.specs.Answer.{Answer}
 use Rattle.run.specs.declared.Opening.{Opening}
 use Rattle.run.specs.declared.Run.{Run}
 use Rattle.run.specs.declared.SiteCall.{SiteCall}
@@ -17,7 +17,7 @@ use Rattle.journal.specs.Format.{opened_with, record_words}
 use Rattle.journal.specs.Writing.{Output, is_replayed}
 use Rattle.journal.proofs.TrueRuns.{true-replayed}
 use Rattle.recording.specs.Call.{RecordOutput, rule_calls_in}
-use Rattle.recording.specs.declared.Recorded.{Recorded}
+use Rattle.recording.specs.Answers.{Recorded}
 use Rattle.recording.proofs.Stays.{SameRecording, same-record, further-stays, same-recording}
 use Rattle.page.proofs.Outcome.{same-page}
 use Rattle.promises.specs.Answers.{OpenAnswers, RecordAnswers}

@@ -6,12 +6,12 @@ use Rattle.rules.specs.Site.{Call}
 use Rattle.run.specs.Claims.{filled}
 use Rattle.run.specs.Lists.{after, accepted_calls}
 use Rattle.run.specs.Opening.{opening_as, open_call}
-use Rattle.run.specs.declared.Answer.{Answer}
+use Rattle.run.specs.Answer.{Answer}
 use Rattle.run.specs.declared.Opening.{Opening}
 use Rattle.run.specs.declared.Run.{Run}
 use Rattle.run.specs.declared.SiteCall.{SiteCall}
 use Rattle.run.specs.declared.Terms.{Terms}
-use Rattle.recording.specs.declared.Recorded.{Recorded}
+use Rattle.recording.specs.Answers.{Recorded}
 use Rattle.recording.specs.Call.{record_call}
 use Rattle.promises.specs.Answers.{OpenAnswers, RecordAnswers}
 use Rattle.demand.specs.Demand.{Demand}

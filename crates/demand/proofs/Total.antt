@@ -13,7 +13,7 @@ use Rattle.run.specs.Claims.{AllTyped, filled}
 use Rattle.run.specs.Lists.{after, accepted_calls}
 use Rattle.run.specs.Opening.{opening_of, opened_run, open_call}
 use Rattle.run.specs.State.{edition_of}
-use Rattle.run.specs.declared.Answer.{Answer}
+use Rattle.run.specs.Answer.{Answer}
 use Rattle.run.specs.declared.Opening.{Opening}
 use Rattle.run.specs.declared.SiteCall.{SiteCall}
 use Rattle.run.proofs.Filled.{sum-filled}

@@ -10,7 +10,7 @@ use Rattle.run.specs.Model.{site_of}
 use Rattle.run.specs.Opening.{opening_of}
 use Rattle.run.specs.declared.Opening.{Opening}
 use Rattle.run.specs.declared.Run.{Run}
-use Rattle.recording.specs.declared.Recorded.{Recorded}
+use Rattle.recording.specs.Answers.{Recorded}
 use Rattle.words.specs.Bytes.{word_at}
 use Rattle.words.specs.Header.{edition_in}
 use Rattle.recording.specs.Layout.{most_recording_bytes, recording_bytes}

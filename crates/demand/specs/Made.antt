@@ -5,7 +5,7 @@ use Rattle.rules.specs.Site.{Call}
 use Rattle.run.specs.Claims.{Typed}
 use Rattle.run.specs.Lists.{call_of}
 use Rattle.run.specs.declared.Run.{Run}
-use Rattle.run.specs.declared.Answer.{Answer}
+use Rattle.run.specs.Answer.{Answer}
 use Rattle.run.specs.declared.SiteCall.{SiteCall}
 use Rattle.promises.specs.Answers.{Answers}
 

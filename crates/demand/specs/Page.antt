@@ -8,9 +8,9 @@ use Rattle.run.specs.Opening.{opening_of}
 use Rattle.run.specs.declared.Opening.{Opening}
 use Rattle.words.specs.Bytes.{word_at}
 use Rattle.words.specs.Header.{zones_in}
-use Rattle.journal.specs.declared.Written.{Written}
+use Rattle.journal.specs.Answers.{Written}
 use Rattle.recording.specs.Shown.{shown_in}
-use Rattle.recording.specs.declared.Recorded.{Recorded}
+use Rattle.recording.specs.Answers.{Recorded}
 use Rattle.page.specs.Claims.{NothingCut}
 use Rattle.page.specs.Layout.{most_page_bytes, page_with, page_text}
 

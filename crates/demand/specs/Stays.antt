@@ -6,8 +6,8 @@ use Rattle.rules.specs.Site.{Call, open_s}
 use Rattle.run.specs.Opening.{opening_of}
 use Rattle.run.specs.declared.Opening.{Opening}
 use Rattle.run.specs.declared.Run.{Run}
-use Rattle.journal.specs.declared.Written.{Written}
-use Rattle.recording.specs.declared.Recorded.{Recorded}
+use Rattle.journal.specs.Answers.{Written}
+use Rattle.recording.specs.Answers.{Recorded}
 use Rattle.promises.specs.Answers.{RecordAnswers, PageAnswers}
 
 -- o: the opening; cs: the accepted calls of the first list, in order, and r: the run after it; ds: those of the further list, and t: the run after

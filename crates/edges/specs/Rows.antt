@@ -15,10 +15,10 @@ use Rattle.run.specs.declared.Opening.{Opening}
 use Rattle.run.specs.declared.Run.{Run}
 use Rattle.run.specs.declared.SiteCall.{SiteCall}
 use Rattle.run.specs.declared.SiteCall.TheVariants.{Receive}
-use Rattle.run.specs.declared.Answer.{Answer}
+use Rattle.run.specs.Answer.{Answer}
 use Rattle.journal.specs.Reading.{read_call}
 use Rattle.journal.specs.Writing.{Output, write_call, PositionedOutput}
-use Rattle.journal.specs.declared.Reading.{Reading}
+use Rattle.journal.specs.Answers.{Reading}
 use Rattle.recording.specs.Call.{RecordOutput, record_call}
 use Rattle.recording.specs.Journal.{JournalOutput, record_journal}
 use Rattle.text.specs.Codes.{codes, codes_of}

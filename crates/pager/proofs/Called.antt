@@ -15,12 +15,12 @@ use Rattle.run.specs.State.{terms_of, count_of}
 use Rattle.run.specs.declared.Run.{Run}
 use Rattle.journal.specs.Reading.{read_call}
 use Rattle.journal.specs.Writing.{is_replayed, Output, refused_output, written_output, PositionedOutput, positioned}
-use Rattle.journal.specs.declared.Written.{Written}
+use Rattle.journal.specs.Answers.{Written}
 use Rattle.recording.specs.Call.{snapshot_of, recorded_total, record_call}
 use Rattle.recording.specs.Journal.{JournalOutput, output_of, unread_output, record_journal}
 use Rattle.recording.specs.Layout.{join_below, channel_words, item_words, recording_bytes}
-use Rattle.recording.specs.declared.JournalRecorded.{JournalRecorded}
-use Rattle.recording.specs.declared.Recorded.{Recorded}
+use Rattle.recording.specs.Answers.{JournalRecorded}
+use Rattle.recording.specs.Answers.{Recorded}
 use Rattle.recording.proofs.Asked.{accepted, refused-alike}
 use Rattle.recording.proofs.Bounds.{words-on}
 use Rattle.recording.proofs.Read.{read_whole}

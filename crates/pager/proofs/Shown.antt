@@ -12,7 +12,7 @@ use Rattle.rules.proofs.Lists.{All}
 use Rattle.channel.specs.Channels.{channel_index}
 use Rattle.words.specs.Bytes.{word_at, words_from}
 use Rattle.words.specs.Header.{zones_in, number_in}
-use Rattle.journal.specs.declared.Written.{Written}
+use Rattle.journal.specs.Answers.{Written}
 use Rattle.recording.specs.Layout.{join_below}
 use Rattle.recording.specs.Shown.{items_in, cars_shown, shown_in}
 use Rattle.recording.proofs.Zones.{join-same}

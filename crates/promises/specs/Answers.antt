@@ -3,17 +3,17 @@
 use Rattle.std.specs.Prelude.{◌≡◌, List, ℕ}
 use Rattle.run.specs.Calls.{answer}
 use Rattle.run.specs.Opening.{opening_as, open_call}
-use Rattle.run.specs.declared.Answer.{Answer}
+use Rattle.run.specs.Answer.{Answer}
 use Rattle.run.specs.declared.Run.{Run}
 use Rattle.run.specs.declared.SiteCall.{SiteCall}
 use Rattle.run.specs.declared.Terms.{Terms}
 use Rattle.recording.specs.Call.{record_call}
-use Rattle.recording.specs.declared.Recorded.{Recorded}
+use Rattle.recording.specs.Answers.{Recorded}
 use Rattle.journal.specs.Reading.{read_call}
 use Rattle.journal.specs.Writing.{write_call}
-use Rattle.journal.specs.declared.JournalWritten.{JournalWritten}
-use Rattle.journal.specs.declared.Reading.{Reading}
-use Rattle.journal.specs.declared.Written.{Written}
+use Rattle.journal.specs.Answers.{JournalWritten}
+use Rattle.journal.specs.Answers.{Reading}
+use Rattle.journal.specs.Answers.{Written}
 use Rattle.page.specs.Call.{page_call}
 use Rattle.conversion.specs.Call.{convert_call}
 use Rattle.conversion.specs.declared.Conversion.{Conversion}

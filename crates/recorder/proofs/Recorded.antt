@@ -16,10 +16,10 @@ use Rattle.run.specs.declared.Run.{Run}
 use Rattle.run.proofs.BelowLaws.{list_at}
 use Rattle.words.specs.Bytes.{words_bytes}
 use Rattle.journal.specs.Format.{header_of}
-use Rattle.recording.specs.declared.Recorded.{Recorded}
+use Rattle.recording.specs.Answers.{Recorded}
 use Rattle.recording.specs.InnerTotal.{total_in}
 use Rattle.recording.proofs.Shows.{recording-total}
-use Rattle.journal.specs.declared.Reading.{Reading}
+use Rattle.journal.specs.Answers.{Reading}
 use Rattle.journal.specs.Reading.{opening_in, records_in, records_of}
 use Rattle.journal.proofs.Accepted.{read-tells, read-replayed}
 use Rattle.recording.proofs.Read.{read_whole}

@@ -13,7 +13,7 @@ use Rattle.run.proofs.Refine.{refine}
 use Rattle.run.proofs.Whole.{call-whole}
 use Rattle.journal.specs.Format.{decode}
 use Rattle.journal.specs.Reading.{replayed}
-use Rattle.journal.specs.declared.Reading.{Reading}
+use Rattle.journal.specs.Answers.{Reading}
 use Rattle.journal.proofs.Replays.{replay-one, not-replayed}
 use Rattle.journal.proofs.Words.{record-decoded}
 use Rattle.recording.specs.Call.{rule_calls_in}

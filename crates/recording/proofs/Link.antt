@@ -22,7 +22,7 @@ use Rattle.run.specs.Layout.{send_record, receive_record}
 use Rattle.run.specs.Lists.{call_of, is_accepted}
 use Rattle.run.specs.Model.{site_of}
 use Rattle.run.specs.State.{zone_at, count_of}
-use Rattle.run.specs.declared.Answer.{Answer}
+use Rattle.run.specs.Answer.{Answer}
 use Rattle.run.specs.declared.Run.{Run}
 use Rattle.run.proofs.Outcome.{acts, Passed, passed, is_open}
 use Rattle.run.proofs.Parts.{zone-on, parts}

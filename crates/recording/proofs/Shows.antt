@@ -26,7 +26,7 @@ use Rattle.channel.specs.Channels.{channel_index, is_channel}
 use Rattle.run.specs.Claims.{WholeRun}
 use Rattle.run.specs.Layout.{send_record}
 use Rattle.run.specs.State.{has_started, edition_of, count_of, terms_of}
-use Rattle.run.specs.declared.Answer.{Answer}
+use Rattle.run.specs.Answer.{Answer}
 use Rattle.run.specs.declared.Run.{Run}
 use Rattle.run.proofs.BelowLaws.{split, sum-end, sum-list}
 use Rattle.run.proofs.IndexLaws.{sum-zone}

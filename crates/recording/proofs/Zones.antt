@@ -26,7 +26,7 @@ use Rattle.journal.specs.Format.{journal_bytes, opened_with, record_words}
 use Rattle.journal.specs.InnerOrdinals.{ordinals_of}
 use Rattle.journal.specs.Reading.{replayed, records_in, read_call, opening_in}
 use Rattle.journal.specs.Writing.{is_replayed}
-use Rattle.journal.specs.declared.Reading.{Reading}
+use Rattle.journal.specs.Answers.{Reading}
 use Rattle.journal.proofs.Accepted.{read-comes, read-tells}
 use Rattle.journal.proofs.Front.{begins-read, read-begins}
 use Rattle.journal.proofs.Same.{same_read, same-run, same-site}

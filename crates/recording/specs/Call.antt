@@ -14,7 +14,7 @@ use Rattle.run.specs.declared.Run.{Run}
 use Rattle.journal.specs.Format as format
 use Rattle.journal.specs.Writing.{is_replayed, Output, refused_output, written_output}
 use Rattle.recording.specs.Layout.{recording_bytes}
-use Rattle.recording.specs.declared.Recorded.{Recorded}
+use Rattle.recording.specs.Answers.{Recorded}
 use Rattle.run.specs.Opening.{opening_of}
 use Rattle.journal.specs.Format.{opened_with, record_words}
 

@@ -2,7 +2,7 @@
 use Rattle.std.specs.Prelude.{cond, List, ℕ, eqb}
 use Rattle.journal.specs.Reading.{read_call}
 use Rattle.recording.specs.Call.{RecordOutput, record_call}
-use Rattle.recording.specs.declared.JournalRecorded.{JournalRecorded}
+use Rattle.recording.specs.Answers.{JournalRecorded}
 
 -- What is answered, and the lent bytes after it.
 pub record JournalOutput : Type 0 where

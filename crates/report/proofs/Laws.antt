@@ -16,7 +16,7 @@ use Rattle.journal.specs.Writing.{is_replayed, written_output}
 use Rattle.recording.specs.Call.{no_requests, snapshot_of, with_total, not_recorded, recorded_total, record_call}
 use Rattle.recording.specs.Journal.{output_of, unread_output, record_journal}
 use Rattle.recording.specs.Layout.{recording_bytes}
-use Rattle.recording.specs.declared.JournalRecorded.{JournalRecorded}
+use Rattle.recording.specs.Answers.{JournalRecorded}
 use Rattle.text.specs.Text.{bytes_text, refused_text, Prints}
 use Rattle.report.specs.Report.{report_text}
 

@@ -13,7 +13,7 @@ use Rattle.rules.proofs.Tests.{and_right}
 use Rattle.words.specs.Bytes.{word_at}
 use Rattle.words.specs.Header.{edition_in, zones_in, number_in}
 use Rattle.journal.specs.Reading.{unread, zones_of, records_of, is_header, read_call}
-use Rattle.journal.specs.declared.Reading.{Reading}
+use Rattle.journal.specs.Answers.{Reading}
 use Rattle.journal.proofs.Front.{read-begins}
 use Rattle.recording.specs.Journal.{record_journal}
 use Rattle.conversion.specs.Call.{convert_from, convert_call}

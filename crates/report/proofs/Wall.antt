@@ -14,7 +14,7 @@ use Rattle.run.specs.State.{has_started, count_of}
 use Rattle.run.specs.declared.Run.{Run}
 use Rattle.journal.specs.Reading.{read_call}
 use Rattle.journal.specs.Writing.{is_replayed, refused_output, written_output, PositionedOutput, positioned}
-use Rattle.journal.specs.declared.JournalWritten.{JournalWritten}
+use Rattle.journal.specs.Answers.{JournalWritten}
 use Rattle.journal.proofs.Accepted.{read-replayed}
 use Rattle.recording.specs.Call.{no_requests}
 use Rattle.recording.proofs.Read.{read_whole}

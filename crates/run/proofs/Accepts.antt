@@ -25,7 +25,7 @@ use Rattle.run.specs.Model.{site_of}
 use Rattle.run.specs.Lists.{is_accepted}
 use Rattle.run.specs.Claims.{WholeRun}
 use Rattle.run.specs.declared.Run.{Run}
-use Rattle.run.specs.declared.Answer.{Answer}
+use Rattle.run.specs.Answer.{Answer}
 use Rattle.run.proofs.Outcome.{answer-is, Pair, pair, zone-sited}
 use Rattle.run.proofs.BelowLaws.{any-of-none}
 use Rattle.run.proofs.Parts.{on-site, zone-on, channel-on, SoundRun, parts}

@@ -10,7 +10,7 @@ use Rattle.run.specs.State.{zone_at, all_cars, is_sound, edition_of, count_of}
 use Rattle.run.specs.Calls.{refused, answer, granted, questions}
 use Rattle.run.specs.Claims.{send_questions, send_refusal, gate_questions, gate_refusal, gate_refusals, open_refusals, possible_answers}
 use Rattle.run.specs.declared.Run.{Run}
-use Rattle.run.specs.declared.Answer.{Answer}
+use Rattle.run.specs.Answer.{Answer}
 use Rattle.run.proofs.Outcome.{answer-is, listed, unlisted}
 use Rattle.run.specs.declared.SiteCall.{SiteCall}
 use Rattle.run.specs.Opening.{open_call, open_questions}

@@ -26,7 +26,7 @@ use Rattle.run.specs.Model.{site_of}
 use Rattle.run.specs.Lists.{call_of, is_accepted, after}
 use Rattle.run.specs.Claims.{WholeRun, Typed, AllTyped, entered, left}
 use Rattle.run.specs.declared.Run.{Run}
-use Rattle.run.specs.declared.Answer.{Answer}
+use Rattle.run.specs.Answer.{Answer}
 use Rattle.run.proofs.Filled.{stocks-sum}
 use Rattle.run.proofs.Outcome.{Pair, Sited, sited, Passed, Refused, outcome, is_open, Fitting}
 use Rattle.rules.proofs.Editions.{sent-stock, received-stock}

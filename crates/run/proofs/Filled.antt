@@ -15,7 +15,7 @@ use Rattle.rules.specs.Zone.{opened}
 use Rattle.run.specs.Claims.{filled_list, filled}
 use Rattle.run.specs.Opening.{opening_as, stock_at, opening_of, first_run, opened_run, is_stock_list, unopened, open_call}
 use Rattle.run.specs.State.{head_as, no_local, zone_at}
-use Rattle.run.specs.declared.Answer.{Answer}
+use Rattle.run.specs.Answer.{Answer}
 use Rattle.run.specs.declared.Opening.{Opening}
 use Rattle.run.specs.declared.Terms.{Terms}
 use Rattle.run.proofs.BelowLaws.{none-at, sum_zeros, sum-list, list_at}

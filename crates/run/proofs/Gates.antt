@@ -21,7 +21,7 @@ use Rattle.run.specs.Claims.{WholeRun, AllTyped, entered, left}
 use Rattle.run.specs.Lists.{is_accepted, call_of, after, accepted_calls}
 use Rattle.run.specs.State.{edition_of, all_cars}
 use Rattle.run.specs.Opening.{open_call, opened_run}
-use Rattle.run.specs.declared.Answer.{Answer}
+use Rattle.run.specs.Answer.{Answer}
 use Rattle.run.specs.declared.Opening.{Opening}
 use Rattle.run.specs.declared.SiteCall.{SiteCall}
 use Rattle.run.specs.Model.{site_of}

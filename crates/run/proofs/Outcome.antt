@@ -21,7 +21,7 @@ use Rattle.run.specs.Calls.{refused, is_pair, answer, granted, questions, first_
 use Rattle.run.specs.Lists.{call_of, is_accepted}
 use Rattle.run.specs.Claims.{call_refusals, open_refusals}
 use Rattle.run.specs.declared.Run.{Run}
-use Rattle.run.specs.declared.Answer.{Answer}
+use Rattle.run.specs.Answer.{Answer}
 use Rattle.run.specs.declared.SiteCall.{SiteCall}
 use Rattle.run.specs.declared.SiteCall.TheVariants.{Receive, Send, Start, Gate}
 use Rattle.rules.specs.declared.Direction.TheVariants.{In, Out}

@@ -31,7 +31,7 @@ use Rattle.run.specs.Model.{site_of}
 use Rattle.run.specs.Lists.{call_of, is_accepted}
 use Rattle.run.specs.Claims.{WholeRun, Typed}
 use Rattle.run.specs.declared.Run.{Run}
-use Rattle.run.specs.declared.Answer.{Answer}
+use Rattle.run.specs.Answer.{Answer}
 use Rattle.run.proofs.Filled.{short-list}
 use Rattle.run.proofs.Outcome.{is_open, Pair, Asks, passed, Fitting, start_by}
 use Rattle.run.proofs.Whole.{open-whole}

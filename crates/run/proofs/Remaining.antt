@@ -18,7 +18,7 @@ use Rattle.run.specs.Lists.{is_accepted, is_receipt, after, last_remaining}
 use Rattle.run.specs.Model.{site_of}
 use Rattle.run.specs.Opening.{open_call}
 use Rattle.run.specs.State.{count_of}
-use Rattle.run.specs.declared.Answer.{Answer}
+use Rattle.run.specs.Answer.{Answer}
 use Rattle.run.specs.declared.Opening.{Opening}
 use Rattle.run.specs.declared.Run.{Run}
 use Rattle.run.specs.declared.SiteCall.{SiteCall}

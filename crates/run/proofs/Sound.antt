@@ -32,7 +32,7 @@ use Rattle.run.specs.Model.{site_of}
 use Rattle.run.specs.Lists.{call_of, after}
 use Rattle.run.specs.Claims.{WholeRun, Typed, AllTyped}
 use Rattle.run.specs.declared.Run.{Run}
-use Rattle.run.specs.declared.Answer.{Answer}
+use Rattle.run.specs.Answer.{Answer}
 use Rattle.run.proofs.Outcome.{Sited, sited, Asks, Passed, Refused, outcome, Opened, NotOpened, open-outcome, Fitting, fallback-fits}
 use Rattle.run.proofs.BelowLaws.{split, none-at}
 use Rattle.run.proofs.Parts.{on_site, between, on-site, SoundRun, parts, sound}

@@ -12,7 +12,7 @@ use Rattle.run.specs.Lists.{after}
 use Rattle.run.specs.Claims.{WholeRun}
 use Rattle.run.specs.State.{locals, terms_of}
 use Rattle.run.specs.declared.Run.{Run}
-use Rattle.run.specs.declared.Answer.{Answer}
+use Rattle.run.specs.Answer.{Answer}
 use Rattle.run.proofs.Outcome.{Passed, Refused, outcome, Opened, NotOpened, open-outcome}
 use Rattle.run.specs.declared.SiteCall.{SiteCall}
 use Rattle.run.specs.declared.SiteCall.TheVariants.{Receive, Send, Start, Gate}

@@ -17,7 +17,7 @@ use Rattle.channel.specs.declared.Channels.{Channels}
 use Rattle.run.specs.Layout.{send_record, receive_record, start_record, gate_record}
 use Rattle.run.specs.State.{run_as, terms_of, edition_of, count_of, zone_at, put_back, all_cars, is_sound, has_started}
 use Rattle.run.specs.declared.Run.{Run}
-use Rattle.run.specs.declared.Answer.{Answer}
+use Rattle.run.specs.Answer.{Answer}
 use Rattle.run.specs.declared.SiteCall.{SiteCall}
 use Rattle.run.specs.declared.SiteCall.TheVariants.{Send, Receive, Start, Gate}
 use Rattle.run.specs.declared.Terms.{Terms}

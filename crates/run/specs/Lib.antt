@@ -1,3 +1,4 @@
+pub mod Answer
 pub mod Layout
 pub mod State
 pub mod Opening

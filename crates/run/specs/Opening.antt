@@ -10,7 +10,7 @@ use Rattle.rules.specs.declared.Local.{Local}
 use Rattle.channel.specs.Channels.{most_channels, most_words, channels_as}
 use Rattle.channel.specs.declared.Channels.{Channels}
 use Rattle.run.specs.State.{head_as, run_as}
-use Rattle.run.specs.declared.Answer.{Answer}
+use Rattle.run.specs.Answer.{Answer}
 use Rattle.run.specs.declared.Head.{Head}
 use Rattle.run.specs.declared.Opening.{Opening}
 use Rattle.run.specs.declared.Run.{Run}

@@ -25,7 +25,7 @@ use Rattle.local.specs.Requesting.{started_by}
 use Rattle.local.specs.declared.Requesting.{Requesting}
 use Rattle.run.specs.Calls.{actor, is_named, item_received, edition_questions, own_gate_questions, zone_after, channels_after, remaining_on, refused, granted, answer, first_received, record_of, is_pair}
 use Rattle.run.specs.State.{run_as, terms_of, parts_sound, count_of, zone_at, put_back, has_started, stocks, cars_on_channels}
-use Rattle.run.specs.declared.Answer.{Answer}
+use Rattle.run.specs.Answer.{Answer}
 use Rattle.run.specs.declared.Head.{Head}
 use Rattle.run.specs.declared.Run.{Run}
 use Rattle.run.specs.declared.SiteCall.{SiteCall}
@@ -33,9 +33,8 @@ use Rattle.run.specs.declared.SiteCall.TheVariants.{Send, Receive, Start, Gate}
 use Rattle.run.specs.declared.Terms.{Terms}
 use Rattle.run.proofs.Facts.{channel-at, channel-index-lt, sound-high, sound-events, sound-first, sound-room, sound-total}
 use Rattle.run.proofs.Outcome.{pair, zone-sited, named-wider}
-use Rattle.steps.specs.InnerEffect.{Effected, effect_as, unchanged, outcome_of, own_effect, further_questions, effect}
+use Rattle.steps.specs.InnerEffect.{Outcome, Effected, effect_as, unchanged, outcome_of, own_effect, further_questions, effect}
 use Rattle.steps.specs.InnerReady.{Stands, Ready, Weighed, Fits}
-use Rattle.steps.specs.declared.Effect.{Effect}
 
 -- What readiness gives.
 module _ (terms : Terms) (records at : ℕ) (z : Local) (l : Channels) (r : Ready terms records at z l) where
@@ -99,12 +98,12 @@ module _ (terms : Terms) (records at : ℕ) (z : Local) (held : ℕ) (w : Weighe
 
 -- The effect of a hand-over, question by question.
 module _ (terms : Terms) (from to cars : ℕ) (z : Local) (l : Channels) (started : Bool) (held : ℕ) where
-  pub send-7 : (o : Effect) → o ≡ unchanged 7 z → z.stock < cars
+  pub send-7 : (o : Outcome) → o ≡ unchanged 7 z → z.stock < cars
       → record { effect = o; channels = l } ≡ own_effect (Send from to cars) terms z l started held
   unfolding own_effect
   send-7 o g h = rw (g, lt-leb _ _ h)
 
-  pub send-8 : (k : ℕ) (o : Effect) → k ≡ channel_index (index from) (index to) → o ≡ unchanged 8 z → cars ≤ z.stock → 16 ≤ len_of l k
+  pub send-8 : (k : ℕ) (o : Outcome) → k ≡ channel_index (index from) (index to) → o ≡ unchanged 8 z → cars ≤ z.stock → 16 ≤ len_of l k
       → record { effect = o; channels = l } ≡ own_effect (Send from to cars) terms z l started held
   unfolding own_effect
   send-8 k o e g covers h = rw (g, le-leb _ _ covers, le-ltb _ _ (subst (λ (n : ℕ). 16 ≤ len_of l n) e h))
@@ -118,7 +117,7 @@ module _ (terms : Terms) (from to cars : ℕ) (z : Local) (l : Channels) (starte
 
 -- The effect of a receipt, by the channel's index k.
 module _ (terms : Terms) (from to : ℕ) (z : Local) (l : Channels) (started : Bool) (held : ℕ) (k : ℕ) (e : k ≡ channel_index (index from) (index to)) where
-  pub receive-9 : (o : Effect) → o ≡ unchanged 9 z → len_of l k ≡ 0
+  pub receive-9 : (o : Outcome) → o ≡ unchanged 9 z → len_of l k ≡ 0
       → record { effect = o; channels = l } ≡ own_effect (Receive from to) terms z l started held
   unfolding own_effect
   receive-9 o g h = rw (g, eq-eqb _ _ (subst (λ (n : ℕ). len_of l n ≡ 0) e h))
@@ -133,7 +132,7 @@ module _ (terms : Terms) (from to : ℕ) (z : Local) (l : Channels) (started : B
     here : len_of l (channel_index (index from) (index to)) ≢ 0
     here = subst (λ (n : ℕ). len_of l n ≢ 0) e holds
 
-    pub receive-10 : (o : Effect) → o ≡ unchanged 10 z → all_free l (index to) got.to ≡ false
+    pub receive-10 : (o : Outcome) → o ≡ unchanged 10 z → all_free l (index to) got.to ≡ false
         → record { effect = o; channels = l } ≡ own_effect (Receive from to) terms z l started held
     unfolding own_effect
     receive-10 o g h = rw (g, ne_eqb _ _ here, targets-free false h)
@@ -162,13 +161,13 @@ module _ (terms : Terms) (from to : ℕ) (z : Local) (l : Channels) (started : B
 
 -- The effect of a start.
 module _ (terms : Terms) (zone : ℕ) (z : Local) (l : Channels) (started : Bool) (held : ℕ) where
-  pub start-11 : (o : Effect) → o ≡ unchanged 11 z → started ≡ true
+  pub start-11 : (o : Outcome) → o ≡ unchanged 11 z → started ≡ true
       → record { effect = o; channels = l } ≡ own_effect (Start zone) terms z l started held
   unfolding own_effect
   start-11 o g h = rw (g, h)
 
   module _ (first : started ≡ false) (got : Requesting) (starts : got ≡ started_by (index zone) z) where
-    pub start-10 : (o : Effect) → o ≡ unchanged 10 z → all_free l (index zone) got.to ≡ false → record { effect = o; channels = l } ≡ own_effect (Start zone) terms z l started held
+    pub start-10 : (o : Outcome) → o ≡ unchanged 10 z → all_free l (index zone) got.to ≡ false → record { effect = o; channels = l } ≡ own_effect (Start zone) terms z l started held
     unfolding own_effect
     start-10 o g h =
         rw (g, first, subst (λ (g : Requesting). all_free l (index zone) g.to ≡ false) starts h)
@@ -181,7 +180,7 @@ module _ (terms : Terms) (zone : ℕ) (z : Local) (l : Channels) (started : Bool
         rw (q, starts, first, subst (λ (g : Requesting). all_free l (index zone) g.to ≡ true) starts h)
 
 -- Behind question 1, a gate call asks 15.
-pub gate-15 : (d : Direction) (zone cars : ℕ) (terms : Terms) (records : ℕ) (z : Local) (l : Channels) (started : Bool) (held : ℕ) (o : Effect)
+pub gate-15 : (d : Direction) (zone cars : ℕ) (terms : Terms) (records : ℕ) (z : Local) (l : Channels) (started : Bool) (held : ℕ) (o : Outcome)
     → o ≡ unchanged 15 z → has_gates terms.edition ≡ false
     → record { effect = o; channels = l } ≡ effect (Gate d zone cars) terms records z l started held
 unfolding effect
@@ -194,7 +193,7 @@ module _ (c : SiteCall) (terms : Terms) (records : ℕ) (z : Local) (l : Channel
   unfolding effect
   behind-15 = sym (ask-behind (edition_questions c terms.edition) _ _ _ offered)
 
-  pub effect-5 : (o : Effect) → o ≡ unchanged 5 z → is_named terms.count c ≡ false
+  pub effect-5 : (o : Outcome) → o ≡ unchanged 5 z → is_named terms.count c ≡ false
       → record { effect = o; channels = l } ≡ effect c terms records z l started held
   effect-5 o g e = refused-5 ∙ behind-15
     where
@@ -202,7 +201,7 @@ module _ (c : SiteCall) (terms : Terms) (records : ℕ) (z : Local) (l : Channel
       refused-5 = rw (g, e)
 
   module _ (named : is_named terms.count c ≡ true) where
-    pub effect-6 : (o : Effect) → o ≡ unchanged 6 z → 1000 ≤ records
+    pub effect-6 : (o : Outcome) → o ≡ unchanged 6 z → 1000 ≤ records
         → record { effect = o; channels = l } ≡ effect c terms records z l started held
     effect-6 o g h = refused-6 ∙ behind-15
       where
@@ -231,11 +230,11 @@ behind-both c terms records z l ready offered named room = record {
 -- A gate call behind 6: its last question, and what is accepted.
 module _ (terms : Terms) (d : Direction) (zone cars : ℕ) (z : Local) (l : Channels) (started : Bool) (held last : ℕ)
     (asks : last ≡ refusal (own_gate_questions d cars z.stock held)) where
-  pub gate-refused : (o : Effect) → o ≡ unchanged last z → last ≢ 0
+  pub gate-refused : (o : Outcome) → o ≡ unchanged last z → last ≢ 0
       → record { effect = o; channels = l } ≡ own_effect (Gate d zone cars) terms z l started held
   unfolding own_effect
   gate-refused o g h =
-      ap (λ (x : Effect). record { effect = x; channels = l }) (g ∙ ap (λ (n : ℕ). unchanged n z) asks)
+      ap (λ (x : Outcome). record { effect = x; channels = l }) (g ∙ ap (λ (n : ℕ). unchanged n z) asks)
       ∙ sym (ask-refused (own_gate_questions d cars z.stock held) _ _ (λ e. h (asks ∙ e)))
 
   gate-yes : last ≡ 0 → AllYes (own_gate_questions d cars z.stock held)
@@ -310,7 +309,7 @@ module _ (h : Head) (terms : Terms) (records : ℕ) (c : SiteCall) (z : Local) (
       go (inl (p, q)) = inl (p, rest ∙ q)
       go (inr (n, m, p, q)) = inr (n, not-among n 0 (numbers further) m nonzero, p, rest ∙ q)
 
-  module _ (made : Effect) (items lens : List ℕ) (e : effect_as made items lens ≡ effect c terms records z l (has_started h) held) where
+  module _ (made : Outcome) (items lens : List ℕ) (e : record { effect = made; channels = channels_as items lens } ≡ effect c terms records z l (has_started h) held) where
     pub effect-refused : made.refusal ≢ 0 → record { refusal = made.refusal; remaining = 0; run = run_as h (channels_as items lens) journal } ≡ answer c run
     effect-refused d = go together
       where

@@ -1,5 +1,7 @@
 -- The effect of a call behind question 1 on the zone that acts and on the channels: the rest of its questions, then what is accepted.
-use Rattle.std.specs.Prelude.{Bool, List, ◌∷◌, ◌++◌, ℕ, ltb}
+use Rattle.std.specs.Prelude.{Bool, List, ◌∷◌, ◌++◌, ℕ, ltb, Ok, Err, Result}
+use Rattle.questions.specs.Refusal.{number_of}
+use Rattle.questions.specs.declared.Refusal.{Refusal}
 use Rattle.rules.specs.Limits.{most_records}
 use Rattle.rules.specs.Questions.{Question, question, ask}
 use Rattle.rules.specs.declared.Local.{Local}
@@ -10,15 +12,25 @@ use Rattle.run.specs.declared.SiteCall.{SiteCall}
 use Rattle.run.specs.declared.Terms.{Terms}
 use Rattle.steps.specs.declared.Effect.{Effect}
 
+-- What a call makes of the zone z that acts: the refusal's number or 0, the zone, and how many items remain on a receipt's channel, else 0.
+pub record Outcome : Type 0 where
+  pub refusal : ℕ
+  pub zone : Local
+  pub remaining : ℕ
+
+abbrev pub outcome : Local → Result Effect Refusal → Outcome
+outcome z (Ok e) = record { refusal = 0; zone = e.zone; remaining = e.remaining }
+outcome z (Err e) = record { refusal = number_of e; zone = z; remaining = 0 }
+
 pub record Effected : Type 0 where
-  pub effect : Effect
+  pub effect : Outcome
   pub channels : Channels
 
 -- What a function answers and leaves in the lent arrays.
-abbrev pub effect_as : Effect → List ℕ → List ℕ → Effected
-effect_as e items lens = record { effect = e; channels = channels_as items lens }
+abbrev pub effect_as : Local → Result Effect Refusal → List ℕ → List ℕ → Effected
+effect_as z r items lens = record { effect = outcome z r; channels = channels_as items lens }
 
-abbrev pub unchanged : ℕ → Local → Effect
+abbrev pub unchanged : ℕ → Local → Outcome
 unchanged n z = record { refusal = n; remaining = 0; zone = z }
 
 -- What a list of questions leaves of a call: refused with the first number, all stays.

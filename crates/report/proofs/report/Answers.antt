@@ -2,7 +2,7 @@
 use Rattle.std.proofs.Common.{ℕ, ap, arith}
 use native.Mathlib.Numerals.{unary_clauses}
 use lib.ListN.{replicate, length-replicate}
-use Rattle.recording.specs.declared.JournalRecorded.{JournalRecorded}
+use Rattle.recording.specs.Answers.{JournalRecorded}
 use Rattle.report.proofs.Laws.{refused-printed, recording-shown, written-fits}
 use Rattle.report.proofs.report.Goals as goal
 

@@ -1,5 +1,5 @@
 -- `steps::receive` meets its contract: 5, 6, 9, 10, then the item off its channel and the requests.
-use Rattle.std.proofs.Common.{◌<◌, ℕ, sym, ◌∙◌, subst, arith}
+use Rattle.std.proofs.Common.{refl, ◌<◌, ℕ, sym, ◌∙◌, subst, arith}
 use mathlib.Core.Logic.{◌≢◌}
 use Rattle.channel.specs.Channels.{channels_as, len_of}
 use Rattle.channel.proofs.Search.{some-full, none-full}
@@ -20,11 +20,11 @@ pos n h = omega arith
 
 pub returns-then-not-is_pair : goal.returns-then-not-is_pair
 returns-then-not-is_pair c = λ started held.
-    effect-5 (Receive c.args.from c.args.to) _ _ _ _ started held tt _ c.no_effect.ensures (sym c.is_pair.ensures ∙ c.if-not-is_pair.true)
+    effect-5 (Receive c.args.from c.args.to) _ _ _ _ started held tt _ refl (sym c.is_pair.ensures ∙ c.if-not-is_pair.true)
 
 pub returns-then-records-ge-MOST_RECORDS : goal.returns-then-records-ge-MOST_RECORDS
 returns-then-records-ge-MOST_RECORDS c = λ started held.
-    effect-6 (Receive c.args.from c.args.to) _ _ _ _ started held tt (sym c.is_pair.ensures ∙ c.if-not-is_pair.false) _ c.no_effect-then-records-ge-MOST_RECORDS.ensures c.if-records-ge-MOST_RECORDS.true
+    effect-6 (Receive c.args.from c.args.to) _ _ _ _ started held tt (sym c.is_pair.ensures ∙ c.if-not-is_pair.false) _ refl c.if-records-ge-MOST_RECORDS.true
 
 pub overflow_sub-a : goal.overflow_sub-a
 overflow_sub-a c = (pair-low 8 _ _ (behind (goal.at.overflow_sub-a c).Else-records-ge-MOST_RECORDS).fits.0).0
@@ -37,7 +37,7 @@ channel_index-k-requires c = let p = pair 8 _ _ (behind (goal.at.channel_index-k
 
 pub returns-then-lens-k-eq0 : goal.returns-then-lens-k-eq0
 returns-then-lens-k-eq0 c = λ started held.
-    receive-9 _ _ _ _ _ started held _ c.channel_index-k.ensures.0 _ c.no_effect-then-lens-k-eq0.ensures c.if-lens-k-eq0.true
+    receive-9 _ _ _ _ _ started held _ c.channel_index-k.ensures.0 _ refl c.if-lens-k-eq0.true
     ∙ (behind (goal.at.returns-then-lens-k-eq0 c).Else-records-ge-MOST_RECORDS).own _ started held
 
 pub take-got-requires : goal.take-got-requires
@@ -60,7 +60,7 @@ highest_full-full-requires c = (pair 8 _ _ (behind (goal.at.highest_full-full-re
 
 pub returns-then-full-ne0 : goal.returns-then-full-ne0
 returns-then-full-ne0 c = λ started held.
-    receive-10 _ _ _ _ _ started held _ c.channel_index-k.ensures.0 c.if-lens-k-eq0.false _ c.take-got.ensures _ c.no_effect-then-full-ne0.ensures
+    receive-10 _ _ _ _ _ started held _ c.channel_index-k.ensures.0 c.if-lens-k-eq0.false _ c.take-got.ensures _ refl
     (some-full _ _ _ _ (c.highest_full-full.ensures _) c.if-full-ne0.true)
     ∙ (behind (goal.at.returns-then-full-ne0 c).Else-records-ge-MOST_RECORDS).own _ started held
 

@@ -1,5 +1,5 @@
 -- `steps::send` meets its contract: 5, 6, 7, 8, then the message on its channel.
-use Rattle.std.proofs.Common.{sym, ◌∙◌}
+use Rattle.std.proofs.Common.{refl, sym, ◌∙◌}
 use Rattle.channel.specs.Channels.{channels_as}
 use Rattle.run.specs.declared.SiteCall.TheVariants.{Send}
 use Rattle.run.proofs.Outcome.{pair, pair-low}
@@ -15,15 +15,15 @@ behind c =
 
 pub returns-then-not-is_pair : goal.returns-then-not-is_pair
 returns-then-not-is_pair c = λ started held.
-    effect-5 (Send c.args.from c.args.to c.args.cars) _ _ _ _ started held tt _ c.no_effect.ensures (sym c.is_pair.ensures ∙ c.if-not-is_pair.true)
+    effect-5 (Send c.args.from c.args.to c.args.cars) _ _ _ _ started held tt _ refl (sym c.is_pair.ensures ∙ c.if-not-is_pair.true)
 
 pub returns-then-records-ge-MOST_RECORDS : goal.returns-then-records-ge-MOST_RECORDS
 returns-then-records-ge-MOST_RECORDS c = λ started held.
-    effect-6 (Send c.args.from c.args.to c.args.cars) _ _ _ _ started held tt (sym c.is_pair.ensures ∙ c.if-not-is_pair.false) _ c.no_effect-then-records-ge-MOST_RECORDS.ensures c.if-records-ge-MOST_RECORDS.true
+    effect-6 (Send c.args.from c.args.to c.args.cars) _ _ _ _ started held tt (sym c.is_pair.ensures ∙ c.if-not-is_pair.false) _ refl c.if-records-ge-MOST_RECORDS.true
 
 pub returns-then-z-cars : goal.returns-then-z-cars
 returns-then-z-cars c = λ started held.
-    send-7 _ _ _ _ _ _ started held _ c.no_effect-then-z-cars.ensures c.if-z-cars.true ∙ (behind (goal.at.returns-then-z-cars c).Else-records-ge-MOST_RECORDS).own _ started held
+    send-7 _ _ _ _ _ _ started held _ refl c.if-z-cars.true ∙ (behind (goal.at.returns-then-z-cars c).Else-records-ge-MOST_RECORDS).own _ started held
 
 pub overflow_sub-from : goal.overflow_sub-from
 overflow_sub-from c = (pair-low 8 _ _ (behind (goal.at.overflow_sub-from c).Else-records-ge-MOST_RECORDS).fits.0).0
@@ -36,7 +36,7 @@ channel_index-k-requires c = let p = pair 8 _ _ (behind (goal.at.channel_index-k
 
 pub returns-then-lens-k-ge-MOST_ITEMS : goal.returns-then-lens-k-ge-MOST_ITEMS
 returns-then-lens-k-ge-MOST_ITEMS c = λ started held.
-    send-8 _ _ _ _ _ _ started held _ _ c.channel_index-k.ensures.0 c.no_effect-then-lens-k-ge-MOST_ITEMS.ensures c.if-z-cars.false c.if-lens-k-ge-MOST_ITEMS.true
+    send-8 _ _ _ _ _ _ started held _ _ c.channel_index-k.ensures.0 refl c.if-z-cars.false c.if-lens-k-ge-MOST_ITEMS.true
     ∙ (behind (goal.at.returns-then-lens-k-ge-MOST_ITEMS c).Else-records-ge-MOST_RECORDS).own _ started held
 
 pub send-zone-requires : goal.send-zone-requires

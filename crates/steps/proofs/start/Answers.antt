@@ -1,5 +1,5 @@
 -- `steps::start` meets its contract: 5, 6, 11, 10, then the requests.
-use Rattle.std.proofs.Common.{sym, ◌∙◌}
+use Rattle.std.proofs.Common.{refl, sym, ◌∙◌}
 use Rattle.channel.proofs.Search.{some-full, none-full}
 use Rattle.run.specs.declared.SiteCall.TheVariants.{Start}
 use Rattle.run.proofs.Outcome.{zone-sited}
@@ -8,15 +8,15 @@ use Rattle.steps.proofs.start.Goals as goal
 
 pub returns-then-not-is_on : goal.returns-then-not-is_on
 returns-then-not-is_on c = λ held.
-    effect-5 (Start c.args.zone) _ _ _ _ _ held tt _ c.no_effect.ensures (sym c.is_on.ensures ∙ c.if-not-is_on.true)
+    effect-5 (Start c.args.zone) _ _ _ _ _ held tt _ refl (sym c.is_on.ensures ∙ c.if-not-is_on.true)
 
 pub returns-then-records-ge-MOST_RECORDS : goal.returns-then-records-ge-MOST_RECORDS
 returns-then-records-ge-MOST_RECORDS c = λ held.
-    effect-6 (Start c.args.zone) _ _ _ _ _ held tt (sym c.is_on.ensures ∙ c.if-not-is_on.false) _ c.no_effect-then-records-ge-MOST_RECORDS.ensures c.if-records-ge-MOST_RECORDS.true
+    effect-6 (Start c.args.zone) _ _ _ _ _ held tt (sym c.is_on.ensures ∙ c.if-not-is_on.false) _ refl c.if-records-ge-MOST_RECORDS.true
 
 pub returns-then-started : goal.returns-then-started
 returns-then-started c = λ held.
-    start-11 _ _ _ _ _ held _ c.no_effect-then-started.ensures c.if-started.true ∙ (behind-both (Start c.args.zone) _ _ _ _ c.requires tt (sym c.is_on.ensures ∙ c.if-not-is_on.false) c.if-records-ge-MOST_RECORDS.false).own _ _ held
+    start-11 _ _ _ _ _ held _ refl c.if-started.true ∙ (behind-both (Start c.args.zone) _ _ _ _ c.requires tt (sym c.is_on.ensures ∙ c.if-not-is_on.false) c.if-records-ge-MOST_RECORDS.false).own _ _ held
 
 pub overflow_sub-a : goal.overflow_sub-a
 overflow_sub-a c = (zone-sited 8 _ (behind-both (Start c.args.zone) _ _ _ _ c.requires tt (sym c.is_on.ensures ∙ c.if-not-is_on.false) c.if-records-ge-MOST_RECORDS.false).fits).0
@@ -29,7 +29,7 @@ highest_full-full-requires c = (zone-sited 8 _ (behind-both (Start c.args.zone) 
 
 pub returns-then-full-ne0 : goal.returns-then-full-ne0
 returns-then-full-ne0 c = λ held.
-    start-10 _ _ _ _ _ held c.if-started.false _ c.start-got.ensures _ c.no_effect-then-full-ne0.ensures
+    start-10 _ _ _ _ _ held c.if-started.false _ c.start-got.ensures _ refl
     (some-full _ _ _ _ (c.highest_full-full.ensures _) c.if-full-ne0.true)
     ∙ (behind-both (Start c.args.zone) _ _ _ _ c.requires tt (sym c.is_on.ensures ∙ c.if-not-is_on.false) c.if-records-ge-MOST_RECORDS.false).own _ _ held
 
