@@ -31,7 +31,7 @@ use Rattle.run.proofs.Filled.{opening-filled}
 use Rattle.run.proofs.Whole.{open-whole, after-whole}
 use Rattle.journal.specs.Format.{opened_with, opening_stocks, record_words, cons_call}
 use Rattle.journal.specs.Format as format
-use Rattle.journal.specs.declared.Record.{Record}
+use Rattle.std.specs.Prelude.{Option}
 use Rattle.journal.specs.Writing.{is_replayed, written_output}
 use Rattle.journal.proofs.Replays.{named}
 use Rattle.journal.proofs.TrueRuns.{true-tells, true-replayed}
@@ -57,7 +57,7 @@ calls-decoded (c ∷ cs) r t = go (is_accepted c r) refl (calls-decoded cs (answ
     go : (b : Bool) → is_accepted c r ≡ b → rule_calls_in (accepted_records cs (answer c r).run) ≡ accepted_calls cs (answer c r).run
         → rule_calls_in (cons-if b (record_of c) (accepted_records cs (answer c r).run)) ≡ cons-if b (call_of c) (accepted_calls cs (answer c r).run)
     go true e h =
-        ap (λ (x : Record). map call_of (cons_call x (format.calls_in (accepted_records cs (answer c r).run)))) (decode-record c t.0 (named c r e))
+        ap (λ (x : Option SiteCall). map call_of (cons_call x (format.calls_in (accepted_records cs (answer c r).run)))) (decode-record c t.0 (named c r e))
         ∙ ap (λ (l : List Call). call_of c ∷ l) h
     go false e h = h
 

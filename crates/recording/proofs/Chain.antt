@@ -19,20 +19,19 @@ use Rattle.journal.proofs.Words.{record-decoded}
 use Rattle.recording.specs.Call.{rule_calls_in}
 use Rattle.run.specs.Calls.{record_of, answer}
 use Rattle.run.specs.declared.SiteCall.{SiteCall}
-use Rattle.journal.specs.declared.Record.{Record}
-use Rattle.journal.specs.declared.Record.TheVariants.{WellFormed, Malformed}
+use Rattle.std.specs.Prelude.{Option, Some, None}
 
 -- The words are records of calls that are accepted in turn, and lead from the first run to the second.
 pub data Chain : List ℕ → Run → Run → Type 0 where
   done : {r : Run} → Chain [] r r
-  next : {w : ℕ} {ws : List ℕ} {r t : Run} (c : SiteCall) → decode w ≡ WellFormed c → record_of c ≡ w → Typed c → is_accepted c r ≡ true
+  next : {w : ℕ} {ws : List ℕ} {r t : Run} (c : SiteCall) → decode w ≡ Some c → record_of c ≡ w → Typed c → is_accepted c r ≡ true
       → Chain ws (answer c r).run t → Chain (w ∷ ws) r t
 
 pub chain : (ws : List ℕ) (position last : ℕ) (r : Run) → (replayed ws position last r).refusal ≡ 0 → Chain ws r (replayed ws position last r).run
 chain [] position last r e = done
 chain (w ∷ ws) position last r e = by-record (decode w) refl (chain ws (position + 1))
   where
-    by_call : (c : SiteCall) (b : Bool) → decode w ≡ WellFormed c → is_accepted c r ≡ b
+    by_call : (c : SiteCall) (b : Bool) → decode w ≡ Some c → is_accepted c r ≡ b
         → ((n : ℕ) (s : Run) → (replayed ws (position + 1) n s).refusal ≡ 0 → Chain ws s (replayed ws (position + 1) n s).run)
         → Chain (w ∷ ws) r (replayed (w ∷ ws) position last r).run
     by_call c true d a more =
@@ -42,11 +41,11 @@ chain (w ∷ ws) position last r e = by-record (decode w) refl (chain ws (positi
         (next c d f t a (more _ (answer c r).run (ap (λ (x : Reading). x.refusal) (sym q) ∙ e)))
     by_call c false d a more = absurd (not-replayed w ws c position last r d a e)
 
-    by-record : (x : Record) → decode w ≡ x
+    by-record : (x : Option SiteCall) → decode w ≡ x
         → ((n : ℕ) (s : Run) → (replayed ws (position + 1) n s).refusal ≡ 0 → Chain ws s (replayed ws (position + 1) n s).run)
         → Chain (w ∷ ws) r (replayed (w ∷ ws) position last r).run
-    by-record Malformed d more = absurd (omega (arith, (rw d at e)))
-    by-record (WellFormed c) d more = by_call c (is_accepted c r) d refl more
+    by-record None d more = absurd (omega (arith, (rw d at e)))
+    by-record (Some c) d more = by_call c (is_accepted c r) d refl more
 
 -- The calls, as the rules have them, lead from site to site, each as the rules ask.
 pub leads : {ws : List ℕ} {r t : Run} → Chain ws r t → WholeRun r → (run (rule_calls_in ws) (site_of r) ≡ site_of t) × Allowed (rule_calls_in ws) (site_of r)

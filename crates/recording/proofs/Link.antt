@@ -41,7 +41,7 @@ use Rattle.run.specs.declared.SiteCall.{SiteCall}
 use Rattle.run.specs.declared.SiteCall.TheVariants.{Send, Receive, Start, Gate}
 use Rattle.rules.specs.declared.Direction.{Direction}
 use Rattle.run.specs.declared.Opening.{Opening}
-use Rattle.journal.specs.declared.Record.TheVariants.{WellFormed}
+use Rattle.std.specs.Prelude.{Some}
 
 same-actor : (c : SiteCall) → actor c ≡ actor_of (call_of c)
 same-actor (Send from to cars) = refl
@@ -51,7 +51,7 @@ same-actor (Gate d zone cars) = refl
 
 -- The own-event ordinal of an accepted call, by the rules.
 number_is : (c : SiteCall) (r : Run) → WholeRun r → Typed c → is_accepted c r ≡ true
-    → ordinal_of (WellFormed c) r
+    → ordinal_of (Some c) r
     ≡ ordinal_by (events_in (site_of r) (actor_of (call_of c))) (events_in (step_s (call_of c) (site_of r)) (actor_of (call_of c)))
 number_is c r w t e =
     let p = passed c r e in
@@ -174,7 +174,7 @@ module _ (i j : ℕ) where
       abbrev Sends : SiteCall → Type 0
       Sends c =
           sent_by (inside_all shown (call_of c) cs (site_of r))
-          ≡ cons-if (sends_on (channel_index i j) sh (record_of c) (ordinal_of (WellFormed c) r)) (record_of c) (sent_by (inside_rest shown (call_of c) cs (site_of r)))
+          ≡ cons-if (sends_on (channel_index i j) sh (record_of c) (ordinal_of (Some c) r)) (record_of c) (sent_by (inside_rest shown (call_of c) cs (site_of r)))
 
       sends-first : (c : SiteCall) → Typed c → is_accepted c r ≡ true → Sends c
       sends-first (Send from to cars) t e = go (sent-moves (index from) (index to) cars (site_of r))
@@ -200,7 +200,7 @@ module _ (i j : ℕ) where
               )
               (ap sent_by (moved_inside shown (send a b cars) cs (site_of r) (hand a b cars) q) ∙ hand-sent a b cars _ _)
       sends-first (Receive from to) t e =
-          rw (no-send (record_of (Receive from to)) (ordinal_of (WellFormed (Receive from to)) r) (omega arith))
+          rw (no-send (record_of (Receive from to)) (ordinal_of (Some (Receive from to)) r) (omega arith))
           (go (received-moves (index from) (index to) (site_of r)))
         where
           a : ℕ
@@ -215,23 +215,23 @@ module _ (i j : ℕ) where
           go (inr q) = ap sent_by (moved_inside shown (receive a b) cs (site_of r) (take a b) q)
               ∙ take-sent a b (is_inside shown (events_in (site_of r)) (take a b)) (inside_rest shown (receive a b) cs (site_of r))
       sends-first (Start zone) t e =
-          rw (no-send (record_of (Start zone)) (ordinal_of (WellFormed (Start zone)) r) (omega arith))
+          rw (no-send (record_of (Start zone)) (ordinal_of (Some (Start zone)) r) (omega arith))
           (ap sent_by (quiet-inside shown (start (index zone)) cs (site_of r) (start-quiet (index zone) (site_of r))))
       sends-first (Gate d zone cars) t e =
-          rw (no-send (record_of (Gate d zone cars)) (ordinal_of (WellFormed (Gate d zone cars)) r) (omega arith))
+          rw (no-send (record_of (Gate d zone cars)) (ordinal_of (Some (Gate d zone cars)) r) (omega arith))
           (ap sent_by (moved_inside shown (gate d (index zone) cars) cs (site_of r) (pass d (index zone) cars) (gate-moves d (index zone) cars (site_of r)))
           ∙ pass-sent d (index zone) cars (is_inside shown (events_in (site_of r)) (pass d (index zone) cars)) (inside_rest shown (gate d (index zone) cars) cs (site_of r)))
 
       abbrev Takes : SiteCall → Type 0
       Takes c =
           takes i j (inside_all shown (call_of c) cs (site_of r))
-          ≡ on (takes_on (channel_index i j) sh (record_of c) (ordinal_of (WellFormed c) r)) suc (takes i j (inside_rest shown (call_of c) cs (site_of r)))
+          ≡ on (takes_on (channel_index i j) sh (record_of c) (ordinal_of (Some c) r)) suc (takes i j (inside_rest shown (call_of c) cs (site_of r)))
 
       takes_first : (c : SiteCall) → Typed c → is_accepted c r ≡ true → Takes c
       takes_first (Send from to cars) t e =
           let p = passed (Send from to cars) r e in
           let few = (parts r p.sound).most in
-          rw (no-take (send_record a b cars) (ordinal_of (WellFormed (Send from to cars)) r) (inl (omega (arith, p.asks.0.from, p.asks.0.to))))
+          rw (no-take (send_record a b cars) (ordinal_of (Some (Send from to cars)) r) (inl (omega (arith, p.asks.0.from, p.asks.0.to))))
           (go (sent-moves a b cars (site_of r)))
         where
           a : ℕ
@@ -269,10 +269,10 @@ module _ (i j : ℕ) where
               (ap (takes i j) (moved_inside shown (receive a b) cs (site_of r) (take a b) q)
               ∙ take-taken a b (is_inside shown (events_in (site_of r)) (take a b)) (inside_rest shown (receive a b) cs (site_of r)))
       takes_first (Start zone) t e =
-          rw (no-take (record_of (Start zone)) (ordinal_of (WellFormed (Start zone)) r) (inr (omega arith)))
+          rw (no-take (record_of (Start zone)) (ordinal_of (Some (Start zone)) r) (inr (omega arith)))
           (ap (takes i j) (quiet-inside shown (start (index zone)) cs (site_of r) (start-quiet (index zone) (site_of r))))
       takes_first (Gate d zone cars) t e =
-          rw (no-take (record_of (Gate d zone cars)) (ordinal_of (WellFormed (Gate d zone cars)) r) (inr (omega arith)))
+          rw (no-take (record_of (Gate d zone cars)) (ordinal_of (Some (Gate d zone cars)) r) (inr (omega arith)))
           (ap (takes i j) (moved_inside shown (gate d (index zone) cars) cs (site_of r) (pass d (index zone) cars) (gate-moves d (index zone) cars (site_of r)))
           ∙ pass-taken d (index zone) cars (is_inside shown (events_in (site_of r)) (pass d (index zone) cars)) (inside_rest shown (gate d (index zone) cars) cs (site_of r)))
 
@@ -285,7 +285,7 @@ module _ (i j : ℕ) where
         let h = sent-are more (call-whole c r w) in
         rw (d, has-kind c r a, a, ← f)
         (sends-first r w (rule_calls_in ws) c typed a
-        ∙ ap (cons-if (sends_on (channel_index i j) sh (record_of c) (ordinal_of (WellFormed c) r)) (record_of c))
+        ∙ ap (cons-if (sends_on (channel_index i j) sh (record_of c) (ordinal_of (Some c) r)) (record_of c))
         (ap (λ (s : Site). sent_by (inside_of shown ws s)) (sym q) ∙ h))
 
     pub taken-are : {ws : List ℕ} {r t : Run} → Chain ws r t → WholeRun r
@@ -296,7 +296,7 @@ module _ (i j : ℕ) where
         let h = taken-are more (call-whole c r w) in
         rw (d, has-kind c r a, a, ← f)
         (takes_first r w (rule_calls_in ws) c typed a
-        ∙ ap (on (takes_on (channel_index i j) sh (record_of c) (ordinal_of (WellFormed c) r)) suc)
+        ∙ ap (on (takes_on (channel_index i j) sh (record_of c) (ordinal_of (Some c) r)) suc)
         (ap (λ (s : Site). takes i j (inside_of shown ws s)) (sym q) ∙ h))
 
 map-drop : {A B : Type 0} (f : A → B) (n : ℕ) (xs : List A) → map f (drop n xs) ≡ drop n (map f xs)
