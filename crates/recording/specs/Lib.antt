@@ -1,3 +1,4 @@
+pub mod Answers
 pub mod Layout
 pub mod Call
 pub mod InnerRecords

@@ -2,9 +2,6 @@
 
 #![tactic(auto)]
 
-ghost use Rattle.recording.specs.declared.Recorded.{Recorded};
-ghost use Rattle.recording.specs.declared.JournalRecorded.{JournalRecorded};
-
 use rules::{RECORDS, ZONES};
 
 // What the firm bit, of a permanent checkpoint, weighs in a zone's first word.
@@ -17,20 +14,10 @@ pub const EVENTS_VALUES: u16 = 1024;
 // without its record.
 pub const RECORDING_BYTES: usize = 2 + 4 * ZONES + 2 * RECORDS;
 
-// What the recording of a run answers: the refusal's number or 0, the number of bytes written, and the recorded total: the recorded stocks
-// and the recorded cars on channels.
-#[derive(Drop)]
-pub struct Recorded {
-    pub refusal: u8,
-    pub written: usize,
-    pub total: u32,
-}
-
-// What the recording of a journal answers: the same, and the position of the record that was refused with 18 or 19.
-#[derive(Drop)]
-pub struct JournalRecorded {
-    pub refusal: u8,
-    pub position: usize,
+// What an accepted recording tells: the number of bytes written, and the recorded total: the recorded stocks and the recorded cars on
+// channels.
+#[derive(Clone, Copy)]
+pub struct Recording {
     pub written: usize,
     pub total: u32,
 }

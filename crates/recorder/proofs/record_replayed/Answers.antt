@@ -1,5 +1,5 @@
 -- `recorder::record_replayed` meets its contract: questions 12, 13 and 14, and the bytes.
-use Rattle.std.proofs.Common.{sym, ◌∙◌, ap}
+use Rattle.std.proofs.Common.{refl, sym, ◌∙◌, ap}
 use Rattle.recording.specs.Call.{RecordOutput}
 use Rattle.recording.proofs.Bounds.{run_sound}
 use Rattle.recorder.proofs.Recorded.{enough-words, enough-ordinals, parts-fit, parts-written, refused-12, refused-13}
@@ -10,11 +10,11 @@ has_started-requires c = let p = c.requires in (run_sound _ p.whole p.asked).mos
 
 pub returns-then-not-has_started : goal.returns-then-not-has_started
 returns-then-not-has_started c =
-    refused-12 _ c.requires.asked _ _ (sym c.has_started.ensures ∙ c.if-not-has_started.true) c.refused.ensures
+    refused-12 _ c.requires.asked _ _ (sym c.has_started.ensures ∙ c.if-not-has_started.true) refl
 
 pub returns-then-not-no_requests : goal.returns-then-not-no_requests
 returns-then-not-no_requests c =
-    refused-13 _ c.requires.asked _ _ (sym c.has_started.ensures ∙ c.if-not-has_started.false) (sym c.no_requests.ensures ∙ c.if-not-no_requests.true) c.refused-then-not-no_requests.ensures
+    refused-13 _ c.requires.asked _ _ (sym c.has_started.ensures ∙ c.if-not-has_started.false) (sym c.no_requests.ensures ∙ c.if-not-no_requests.true) refl
 
 pub slice_bounds-write_sized-end : goal.slice_bounds-write_sized-end
 slice_bounds-write_sized-end c = enough-words _ _ c.requires

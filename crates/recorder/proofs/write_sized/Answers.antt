@@ -31,7 +31,7 @@ returns-then-out-count c =
     let a = c.args in
     let e = too_few a.head a.words.now a.ordinals.now _ _ a.out.now c.shown_events-shown.ensures (number_is (goal.at.returns-then-out-count c).After-number-number)
     (written_total a.head a.words.now a.ordinals.now a.out.now) c.if-out-count.true in
-    rw e (c.refused.ensures, refl)
+    rw e (refl, refl)
 
 pub overflow_cast-number : goal.overflow_cast-number
 overflow_cast-number c = let h = few (goal.at.overflow_cast-number c).After-number-number in record { fits = omega arith }
