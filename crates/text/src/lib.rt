@@ -18,21 +18,20 @@ fn digit(d: u8) -> u8
     if d < 10 { b'0' + d } else { b'A' + (d - 10) }
 }
 
-// The text of some bytes; the answer is the number of characters.
+// The text of some bytes; the answer is the number of characters. The characters are stored by index: behind a loop over `chunks_exact_mut`
+// no proof knows what was stored.
 pub fn shown(bytes: &[u8], out: &mut [u8]) -> usize
     ensures { Prints (bytes_text bytes.now) out.old out.new result }
 {
     let n = bytes.len();
-    let most = out.len() / 3;
-    if most < n {
+    if out.len() / 3 < n {
         return 0;
     }
-    let end = if n == 0 { 0 } else { 3 * n - 1 };
+    let end = (3 * n).saturating_sub(1);
     if out.len() <= end {
         return 0;
     }
-    for i in 0..n {
-        let b = bytes[i];
+    for (i, &b) in bytes.iter().enumerate() {
         out[3 * i] = digit(b / 16);
         out[3 * i + 1] = digit(b % 16);
         out[3 * i + 2] = b' ';
@@ -46,14 +45,7 @@ fn word(out: &mut [u8])
     requires { 8 ≤ length out.old }
     ensures { out.new ≡ sets out.old 0 refused_word }
 {
-    out[0] = b'r';
-    out[1] = b'e';
-    out[2] = b'f';
-    out[3] = b'u';
-    out[4] = b's';
-    out[5] = b'e';
-    out[6] = b'd';
-    out[7] = b' ';
+    out[..8].copy_from_slice(b"refused ");
 }
 
 // The character at a place of a column, by what is left of the number there: its digit, or a space where none is left. The last place has a
@@ -69,18 +61,16 @@ fn place(last: bool, left: u32) -> u8
     }
 }
 
-// A number right-aligned in the lent bytes, in decimal, with spaces in front. Digits for which there is no place are left out.
+// A number right-aligned in the lent bytes, in decimal, with spaces in front. Digits for which there is no place are left out. The places are
+// stored by index: behind a loop over `iter_mut().rev()` no proof knows what was stored.
 pub fn column(n: u32, out: &mut [u8])
     ensures { out.new ≡ column_text (length out.old) n }
 {
     let width = out.len();
     let mut left = n;
-    let mut at = width;
-    while at != 0 {
-        let c = place(at == width, left);
-        at -= 1;
-        out[at] = c;
-        left = left / 10;
+    for at in (0..width).rev() {
+        out[at] = place(at + 1 == width, left);
+        left /= 10;
     }
 }
 
@@ -88,10 +78,10 @@ pub fn column(n: u32, out: &mut [u8])
 fn size(n: u8) -> usize
     ensures { (result ≡ length (decimal_text 3 n)) × (result ≤ 3) }
 {
-    if n < 10 {
-        1
-    } else {
-        if n < 100 { 2 } else { 3 }
+    match n {
+        0..=9 => 1,
+        10..=99 => 2,
+        _ => 3,
     }
 }
 
@@ -110,18 +100,8 @@ pub fn refused(n: u8, out: &mut [u8]) -> usize
 }
 
 // Whether two texts are the same.
-#[tactic(auto, using(words::proofs::SameLaws::other_length, words::proofs::SameLaws::same_next))]
 pub fn same(a: &[u8], b: &[u8]) -> bool
     ensures { result ≡ same_words a.now b.now }
 {
-    if a.len() != b.len() {
-        return false;
-    }
-    let mut alike = true;
-    let mut i = 0;
-    while i < a.len() {
-        alike = alike & (a[i] == b[i]);
-        i += 1;
-    }
-    alike
+    a == b
 }
