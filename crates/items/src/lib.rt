@@ -20,14 +20,11 @@ pub const HIGH_BYTES: usize = 256;
 // A start for each channel, and one behind the last.
 const BEGINS: usize = CHANNELS + 1;
 
-// 1 for an event that is inside the events shown, by its ordinal; else 0.
-fn inside(ordinal: u16, shown: u16) -> u16
-    ensures { (result ≡ cond (is_in ordinal shown) 1 0) × (result ≤ 1) }
+// Whether an event is inside the events shown, by its ordinal.
+fn inside(ordinal: u16, shown: u16) -> bool
+    ensures { result ≡ is_in ordinal shown }
 {
-    if (1 <= ordinal) & (ordinal <= shown) {
-        return 1;
-    }
-    0
+    (1..=shown).contains(&ordinal)
 }
 
 // The high byte of a record's word: its kind and its channel's index.
@@ -58,25 +55,13 @@ pub fn counted(words: &[u16], ordinals: &[u16], shown: [u16; ZONES]) -> [u16; HI
     ensures { result ≡ counts shown words.now ordinals.now }
 {
     let mut seen = [0u16; HIGH_BYTES];
-    for i in 0..words.len() {
-        let word = words[i];
-        let ordinal = ordinals[i];
+    for (&word, &ordinal) in words.iter().zip(ordinals) {
         let high = high_byte(word);
-        let limit = shown_for(&shown, high);
-        let one = inside(ordinal, limit);
-        seen[high] = seen[high] + one;
+        if inside(ordinal, shown_for(&shown, high)) {
+            seen[high] += 1;
+        }
     }
     seen
-}
-
-// Of two numbers the first less the second; 0 where the second is not below the first.
-fn less(sent: u16, taken: u16) -> usize
-    ensures { (result ≡ sent - taken) × (result ≤ 65535) }
-{
-    if sent <= taken {
-        return 0;
-    }
-    (sent - taken) as usize
 }
 
 // The number of items on the channel at index k, which is below 64; 0 where the site has no channel there.
@@ -87,9 +72,7 @@ fn number_at(count: u8, seen: &[u16; HIGH_BYTES], k: usize) -> usize
     if !channel::is_channel(count, k) {
         return 0;
     }
-    let sent = seen[k];
-    let taken = seen[CHANNELS + k];
-    less(sent, taken)
+    seen[k].saturating_sub(seen[CHANNELS + k]) as usize
 }
 
 // The number of the items before those of each channel, which is where its words begin; behind the last channel, the number of all.
@@ -97,11 +80,8 @@ fn begins(count: u8, seen: &[u16; HIGH_BYTES]) -> [usize; BEGINS]
     ensures { Begins most_channels result count seen.now }
 {
     let mut begins = [0usize; BEGINS];
-    let mut k = 0;
-    while k < CHANNELS {
-        let n = number_at(count, seen, k);
-        begins[k + 1] = begins[k] + n;
-        k += 1;
+    for k in 0..CHANNELS {
+        begins[k + 1] = begins[k] + number_at(count, seen, k);
     }
     begins
 }
@@ -121,7 +101,7 @@ fn is_sent(high: usize, ordinal: u16, shown: &[u16; ZONES]) -> bool
     if CHANNELS <= high {
         return false;
     }
-    inside(ordinal, shown[high / ZONES]) != 0
+    inside(ordinal, shown[high / ZONES])
 }
 
 // The words of all items, by sender, then receiver, then order sent, from the front of the lent bytes on. What `counted` counted of these
