@@ -124,9 +124,10 @@ pub fn write(
     let begins = begins(count, seen);
     let mut ends = begins;
     let mut missing = begins[CHANNELS];
-    let mut i = words.len();
-    while missing != 0 {
-        i -= 1;
+    for i in (0..words.len()).rev() {
+        if missing == 0 {
+            break;
+        }
         let word = words[i];
         let k = high_byte(word);
         if !is_sent(k, ordinals[i], &shown) {

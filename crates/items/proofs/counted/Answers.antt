@@ -24,12 +24,12 @@ loop-word-preserved-then-inside c =
     simp length-append (seen_inside c.loop-word.invariant t.0 c.requires.1 t.1 c.high_byte-high.ensures.1 (sym t.2 ∙ c.if-inside.true))
 
 pub loop-word-preserved : goal.loop-word-preserved
-loop-word-preserved c = 
+loop-word-preserved c =
     let t = turn (goal.at.loop-word-preserved c).After-inside in
     simp length-append (seen_outside c.loop-word.invariant t.0 c.requires.1 t.1 (sym t.2 ∙ c.if-inside.false))
 
 pub returns : goal.returns
-returns c = 
+returns c =
     let t = zip_end c.args.words.now c.args.ordinals.now c.loop-word.yielded c.into_iter-word-iterator.result c.loop-word.word-iterator c.next.new.self c.next.result (search rules) (search rules) c.loop-word.yielded_by c.in-None.is c.next.ensures.steps in
     let a = c.args in
     seen_all c.loop-word.seen a.shown a.words.now a.ordinals.now (length c.loop-word.yielded) (omega (arith, t, c.requires.1)) c.loop-word.invariant

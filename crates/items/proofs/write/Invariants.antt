@@ -4,12 +4,8 @@ use Rattle.items.specs.InnerItems.{begin_at}
 use Rattle.items.proofs.Walking.{Walked, Ahead, final}
 use Rattle.items.proofs.write.Given as goal
 
-abbrev pub invariant-loop-missing : goal.invariant-loop-missing
-invariant-loop-missing l =
-    (l.i ≤ length l.words)
-    × Ahead l.begins l.out l.ends l.missing l.i
+abbrev pub invariant-loop-i : goal.invariant-loop-i
+invariant-loop-i l =
+    Ahead l.begins l.out l.ends l.missing l.i
     × Walked (begin_at l.count l.seen) l.shown l.words l.ordinals
     (final l.count l.seen l.shown l.words l.ordinals l.initial.out) l.out l.ends l.missing l.i
-
-abbrev pub decreases-loop-missing : goal.decreases-loop-missing
-decreases-loop-missing l = l.i
