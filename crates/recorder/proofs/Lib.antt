@@ -1,3 +1,4 @@
+pub mod Ranges
 pub mod Shown
 pub mod Waiting
 pub mod Sized

@@ -1,5 +1,5 @@
 -- The words of a recording by the zones' checkpoints and the records: what the code writes.
-use Rattle.std.specs.Prelude.{◌≡◌, cond, true, Bool, not, ◌||◌, List, [], ◌∷◌, ◌++◌, ℕ, ◌+◌, ◌<◌, ◌≤◌, ltb, leb, length, take, drop}
+use Rattle.std.specs.Prelude.{◌≡◌, cond, true, Bool, not, ◌||◌, Option, Some, None, List, [], ◌∷◌, ◌++◌, ℕ, ◌+◌, ◌<◌, ◌≤◌, ltb, leb, length, take, drop}
 use Rattle.rules.specs.Below.{list_below}
 use Rattle.rules.specs.Cut.{events_of, stock_of}
 use Rattle.rules.specs.Edition.{is_edition}
@@ -7,6 +7,8 @@ use Rattle.rules.specs.Limits.{most_zones, most_records}
 use Rattle.rules.specs.Questions.{question, ask}
 use Rattle.rules.specs.Zone.{is_permanent}
 use Rattle.rules.specs.declared.Checkpoint.{Checkpoint}
+use Rattle.rules.specs.declared.Checkpoint.TheVariants.{Permanent}
+use Rattle.rules.specs.declared.Saved.{Saved}
 use Rattle.run.specs.State.{zone_at, terms_of, edition_of, count_of}
 use Rattle.journal.specs.Format.{header_of, opened_with, record_words}
 use Rattle.journal.specs.Writing.{written_output, is_replayed}
@@ -23,6 +25,11 @@ use Rattle.run.specs.Claims.{WholeRun}
 use Rattle.run.specs.declared.Run.{Run}
 use Rattle.journal.specs.InnerOrdinals.{ordinals_of}
 use Rattle.channel.specs.declared.Channels.{Channels}
+
+-- What a permanent checkpoint keeps.
+abbrev pub permanent : Checkpoint → Option Saved
+permanent (Permanent s) = Some s
+permanent _ = None
 
 -- The two words of a zone, of its checkpoint and its opening stock, and those of all zones.
 abbrev pub checkpoint_words : Checkpoint → ℕ → List ℕ

@@ -15,12 +15,9 @@ events_at h j = events_of (zone_at h j).checkpoint
 pub loop-i-preserved : goal.loop-i-preserved
 loop-i-preserved c =
     let l = c.loop-i in
-    let e = c.shown_of.ensures ∙ ap (λ (z : Local). events_of z.checkpoint) c.zone_at-z.ensures in (
-      omega (arith, c.loop-i-test.true),
-      l.invariant.1,
-      length-set l.shown l.i c.shown_of.result ∙ l.invariant.2,
-      part-more (events_at c.args.head) l.shown l.i c.shown_of.result
-          (omega (arith, l.invariant.2, c.requires, c.loop-i-test.true)) e l.invariant.3,
+    let e = c.shown_of.ensures ∙ ap (λ (z : Local). events_of z.checkpoint) c.zone_at.ensures in (
+      length-set l.shown l.i c.shown_of.result ∙ l.invariant.0,
+      part-more (events_at c.args.head) l.shown l.i c.shown_of.result (omega (arith, l.invariant.0, c.requires)) e l.invariant.1,
     )
 
 pub returns : goal.returns
@@ -28,5 +25,5 @@ unfolding shown_events
 returns c =
     let l = c.loop-i in
     let h = c.args.head in
-    let e : count_of h ≡ l.i = omega (arith, c.loop-i-test.false, l.invariant.0, l.invariant.1) in
-    rw e (part-all (events_at h) l.shown l.i 8 l.invariant.2 l.invariant.3)
+    let e : count_of h ≡ l.i = omega arith in
+    rw e (part-all (events_at h) l.shown l.i 8 l.invariant.0 l.invariant.1)

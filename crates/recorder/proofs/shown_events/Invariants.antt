@@ -1,12 +1,9 @@
 -- `recorder::shown_events` meets its contract: the events of the zones before the next one.
-use Rattle.std.proofs.Common.{◌≡◌, ◌≤◌, ◌-◌, ℕ, length, get_or}
+use Rattle.std.proofs.Common.{◌≡◌, ℕ, length, get_or}
 use Rattle.rules.specs.Cut.{events_of}
-use Rattle.run.specs.State.{count_of, zone_at}
+use Rattle.run.specs.State.{zone_at}
 use Rattle.recorder.proofs.Shown.{part}
 use Rattle.recorder.proofs.shown_events.Given as goal
 
 abbrev pub invariant-loop-i : goal.invariant-loop-i
-invariant-loop-i l = (l.i ≤ l.count) × (l.count ≡ count_of l.head) × (length l.shown ≡ 8) × ((j : ℕ) → get_or l.shown j 0 ≡ part (λ k. events_of (zone_at l.head k).checkpoint) l.i j)
-
-abbrev pub decreases-loop-i : goal.decreases-loop-i
-decreases-loop-i l = l.count - l.i
+invariant-loop-i l = (length l.shown ≡ 8) × ((j : ℕ) → get_or l.shown j 0 ≡ part (λ k. events_of (zone_at l.head k).checkpoint) l.i j)

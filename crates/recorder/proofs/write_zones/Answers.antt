@@ -17,18 +17,13 @@ pub loop-i-preserved : goal.loop-i-preserved
 loop-i-preserved c =
     let l = c.loop-i in
     let a = c.args in
-    let s : l.at ≡ 4 * l.i = omega (arith, l.invariant.2.number, zones-size a.head l.i) in
-    let e = c.write_zone-n.ensures in
-    let q = ap (λ (z : Local). checkpoint_words z.checkpoint (stock_at a.head.opening l.i)) c.zone_at-z.ensures in (
-      omega (arith, c.loop-i-test.true),
-      l.invariant.1,
-      rw (add-one l.i) (more-wrote _ _ _ _ _ _ _ l.invariant.2 (omega (arith, s, e.number, c.requires.1, c.loop-i-test.true, l.invariant.1)) (wrote_as q e)),
-    )
+    let s : l.at ≡ 4 * l.i = omega (arith, l.invariant.number, zones-size a.head l.i) in
+    let e = c.write_zone-at.ensures in
+    let q = ap (λ (z : Local). checkpoint_words z.checkpoint (stock_at a.head.opening l.i)) c.zone_at-checkpoint.ensures in
+    rw (add-one l.i) (more-wrote _ _ _ _ _ _ _ l.invariant (omega (arith, s, e.number, c.requires.1)) (wrote_as q e))
 
 pub returns : goal.returns
 unfolding zones_words
 returns c =
-    let l = c.loop-i in
-    let h = c.args.head in
-    let e : count_of h ≡ l.i = omega (arith, c.loop-i-test.false, l.invariant.0, l.invariant.1) in
-    rw e l.invariant.2
+    let e : count_of c.args.head ≡ c.loop-i.i = omega arith in
+    rw e c.loop-i.invariant
