@@ -1,12 +1,15 @@
 -- The lines of the zones, and of the channels: one more, and how long they are.
-use mathlib.Core.Path.{◌≡◌, refl, ap}
-use mathlib.Core.Bool.{Bool, true, false, cond}
+use mathlib.Core.Path.{◌≡◌, refl, sym, ◌∙◌, ap}
+use mathlib.Core.Bool.{Bool, true, false, cond, not}
 use mathlib.Core.List.{List, [], ◌++◌}
 use Prim.Native.Nat.{ℕ, zero, suc, ◌+◌, ◌-◌, ◌*◌, ◌/◌, ◌%◌, ◌<◌, ◌≤◌}
 use native.Mathlib.Numerals.{add-one}
 use native.Mathlib.Omega.{arith}
 use lib.Dec.{leb, eqb}
-use lib.ListN.{length, get_or, length-append}
+use lib.ListN.{length, get_or, take, length-append}
+use lib.Seq.{take_all}
+use Rattle.std.specs.List.{count_by}
+use Rattle.std.proofs.lemmas.List.Sums.{count_by_more_no, count_by_more_yes}
 use Rattle.rules.specs.Below.{sum_below}
 use Rattle.run.proofs.BelowLaws.{sum-add}
 use Rattle.recording.specs.Layout.{join_below}
@@ -76,3 +79,21 @@ lines-before items k n h =
     let f : ℕ → ℕ = λ k. line_of (get_or items k 0) in
     let e : suc k + (n - suc k) ≡ n = omega arith in
     omega (arith, sum-add (suc k) (n - suc k) f, ap (λ (m : ℕ). sum_below m f) e)
+
+-- The channels with items, counted.
+abbrev some : ℕ → Bool
+some n = not (eqb n 0)
+
+counted : (items : List ℕ) (n : ℕ) → n ≤ length items → count_by some (take n items) ≡ sum_below n (λ k. line_of (get_or items k 0))
+counted items zero h = refl
+counted items (suc n) h =
+    ap (λ (m : ℕ). count_by some (take m items)) (sym (add-one n)) ∙ go (eqb (get_or items n 0) 0) refl (counted items n (omega arith))
+  where
+    go : (b : Bool) → eqb (get_or items n 0) 0 ≡ b → {before : ℕ} → count_by some (take n items) ≡ before
+        → count_by some (take (n + 1) items) ≡ before + line_of (get_or items n 0)
+    go true e q = rw e (count_by_more_no some items n 0 h (ap not e) ∙ q ∙ omega arith)
+    go false e q = rw e (count_by_more_yes some items n 0 h (ap not e) ∙ ap (λ (m : ℕ). m + 1) q)
+
+pub lines-counted : (items : List ℕ) (n : ℕ) → length items ≡ n → count_by (λ n. not (eqb n 0)) items ≡ lines_number items n
+unfolding lines_number
+lines-counted items n l = ap (count_by some) (sym (take_all n items (omega arith))) ∙ counted items n (omega arith)

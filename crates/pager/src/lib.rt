@@ -27,15 +27,11 @@ use rules::ZONES;
 use run::{Run, SECOND_WEIGHT};
 
 // Five characters from a position on, which is below 6.
-fn five(out: &mut [u8], at: usize, a: u8, b: u8, c: u8, d: u8, e: u8)
+fn five(out: &mut [u8], at: usize, characters: [u8; 5])
     requires { (at < 6) × (line_bytes ≤ length out.old) }
-    ensures { out.new ≡ sets out.old at (a ∷ b ∷ c ∷ d ∷ e ∷ []) }
+    ensures { out.new ≡ sets out.old at characters }
 {
-    out[at] = a;
-    out[at + 1] = b;
-    out[at + 2] = c;
-    out[at + 3] = d;
-    out[at + 4] = e;
+    out[at..at + 5].copy_from_slice(&characters);
 }
 
 // The last number of a line, and the line feed.
@@ -70,7 +66,7 @@ fn write_zone(out: &mut [u8], i: u8, word: u16, stock: u16) -> usize
     ensures { Put (zone_text i (leb permanent_weight word) (word % events_values) stock) out.old out.new result }
 {
     let firm = letter(word);
-    five(out, 0, b'Z', b'1' + i, b' ', firm, b' ');
+    five(out, 0, [b'Z', b'1' + i, b' ', firm, b' ']);
     both_numbers(out, (word % EVENTS_VALUES) as u32, stock as u32);
     LINE_BYTES
 }
@@ -80,7 +76,7 @@ fn write_channel(out: &mut [u8], i: u8, j: u8, items: u16, cars: u32) -> usize
     requires { (i < most_zones) × (j < most_zones) × (line_bytes ≤ length out.old) }
     ensures { Put (channel_text i j items cars) out.old out.new result }
 {
-    five(out, 0, b'L', b'1' + i, b'1' + j, b' ', b' ');
+    five(out, 0, [b'L', b'1' + i, b'1' + j, b' ', b' ']);
     both_numbers(out, items as u32, cars);
     LINE_BYTES
 }
@@ -90,8 +86,8 @@ fn write_total(out: &mut [u8], total: u32) -> usize
     requires { line_bytes ≤ length out.old }
     ensures { Put (total_text total) out.old out.new result }
 {
-    five(out, 0, b'T', b' ', b' ', b' ', b' ');
-    five(out, 5, b' ', b' ', b' ', b' ', b' ');
+    five(out, 0, [b'T', b' ', b' ', b' ', b' ']);
+    five(out, 5, [b' '; 5]);
     last_number(out, total);
     LINE_BYTES
 }
@@ -102,13 +98,10 @@ fn write_zones(out: &mut [u8], recording: &[u8], count: usize) -> usize
     ensures { Put (zone_lines recording.now count) out.old out.new result }
 {
     let mut at = 0;
-    let mut i = 0;
-    while i < count {
+    for i in 0..count {
         let word = words::word_at(recording, 2 + 4 * i);
         let stock = words::word_at(recording, 4 + 4 * i);
-        let n = write_zone(&mut out[at..], i as u8, word, stock);
-        at += n;
-        i += 1;
+        at += write_zone(&mut out[at..], i as u8, word, stock);
     }
     at
 }
@@ -130,34 +123,17 @@ fn write_channels(out: &mut [u8], items: &[u16; CHANNELS], cars: [[u32; ZONES]; 
     ensures { Put (lines_in items.now cars most_channels) out.old out.new result }
 {
     let mut at = 0;
-    let mut k = 0;
-    while k < CHANNELS {
-        let sum = cars[k / ZONES][k % ZONES];
-        let n = write_line(&mut out[at..], k, items[k], sum);
-        at += n;
-        k += 1;
+    for (k, &number) in items.iter().enumerate() {
+        at += write_line(&mut out[at..], k, number, cars[k / ZONES][k % ZONES]);
     }
     at
 }
 
-// The number of lines of a channel: 1 where it has items, else 0.
-fn one_line(items: u16) -> usize
-    ensures { (result ≡ cond (eqb items 0) 0 1) × (result ≤ 1) }
-{
-    if items == 0 { 0 } else { 1 }
-}
-
-// The number of lines of all channels.
+// The number of lines of all channels: one for each with items.
 fn count_lines(items: &[u16; CHANNELS]) -> usize
     ensures { (result ≡ lines_number items.now most_channels) × (result ≤ most_channels) }
 {
-    let mut n = 0;
-    let mut k = 0;
-    while k < CHANNELS {
-        n += one_line(items[k]);
-        k += 1;
-    }
-    n
+    items.iter().filter(|&&number| number != 0).count()
 }
 
 // The number of the items on each channel: so many words from a position on, each of an item on a channel.
@@ -167,12 +143,9 @@ fn item_numbers(recording: &[u8], at: usize, number: usize) -> [u16; CHANNELS]
     ensures { result ≡ item_numbers (words_from recording.now at number) }
 {
     let mut items = [0u16; CHANNELS];
-    let mut i = 0;
-    while i < number {
+    for i in 0..number {
         let word = words::word_at(recording, at + 2 * i);
-        let k = (word / SECOND_WEIGHT) as usize;
-        items[k] = items[k] + 1;
-        i += 1;
+        items[(word / SECOND_WEIGHT) as usize] += 1;
     }
     items
 }
@@ -184,13 +157,10 @@ fn cars_table(recording: &[u8], at: usize, number: usize) -> [[u32; ZONES]; ZONE
     ensures { result ≡ table_of (words_from recording.now at number) }
 {
     let mut cars = [[0u32; ZONES]; ZONES];
-    let mut i = 0;
-    while i < number {
+    for i in 0..number {
         let word = words::word_at(recording, at + 2 * i);
         let k = (word / SECOND_WEIGHT) as usize;
-        let cell = cars[k / ZONES][k % ZONES];
-        cars[k / ZONES][k % ZONES] = cell + (word % SECOND_WEIGHT) as u32;
-        i += 1;
+        cars[k / ZONES][k % ZONES] += (word % SECOND_WEIGHT) as u32;
     }
     cars
 }

@@ -141,7 +141,7 @@ place-written at k width left out e h l =
     (append_assoc (places_text k false (left / 10)) (place_code (eqb (suc k) width) left ∷ []) (drop (suc k) out))
 
 -- What is put in the place of a part of some bytes is stored there, so a column is.
-put-sets : (a e : ℕ) (xs ys : List ℕ) → a ≤ e → e ≤ length xs → length ys ≡ e - a → put_mid a (e - a) xs ys ≡ sets xs a ys
+pub put-sets : (a e : ℕ) (xs ys : List ℕ) → a ≤ e → e ≤ length xs → length ys ≡ e - a → put_mid a (e - a) xs ys ≡ sets xs a ys
 put-sets a e xs ys h g l =
     let w : a + length ys ≡ e = omega arith in
     ap (λ (zs : List ℕ). take a xs ++ (ys ++ zs)) (Post-is a e xs h ∙ ap (λ (n : ℕ). drop n xs) (sym w))

@@ -8,35 +8,30 @@ use Rattle.pager.proofs.Stored.{none-put, put_as, put-length, more-put}
 use Rattle.pager.proofs.write_channels.Goals as goal
 
 pub loop-k-init : goal.loop-k-init
-loop-k-init c = (omega arith, rw (no_lines _ _) (none-put _))
+loop-k-init c = rw (no_lines _ _) (none-put _)
 
-pub write_line-n-requires : goal.write_line-n-requires
-write_line-n-requires c =
+pub write_line-at-requires : goal.write_line-at-requires
+write_line-at-requires c =
     let items = c.args.items.now in
-    let p = c.loop-k.invariant.1 in
-    let h : c.loop-k.at + 17 * line_of (get_or items c.loop-k.k 0) ≤ length c.args.out.now =
-    omega (arith, p.number, lines-size items c.args.cars c.loop-k.k, lines-before items c.loop-k.k 64 c.loop-k-test.true, c.requires) in
+    let k = c.loop-k.k in
+    let p = c.loop-k.invariant in
+    let h : c.loop-k.at + 17 * line_of (get_or items k 0) ≤ length c.args.out.now =
+    omega (arith, p.number, lines-size items c.args.cars k, lines-before items k 64 c.loop-k-test.true, c.requires) in
     let s = put-length p (omega arith) in
-    let one = seventeen (eqb (get_or c.args.items.now c.loop-k.k 0) 0) in
+    let one = seventeen (eqb (get_or items k 0) 0) in
     (c.loop-k-test.true, simp (length-take, length-drop) (omega (arith, one, h, s)))
 
 pub loop-k-preserved : goal.loop-k-preserved
 loop-k-preserved c =
-    let l = c.loop-k in
     let items = c.args.items.now in
-    let p = c.loop-k.invariant.1 in
-    let h : c.loop-k.at + 17 * line_of (get_or items c.loop-k.k 0) ≤ length c.args.out.now =
-    omega (arith, p.number, lines-size items c.args.cars c.loop-k.k, lines-before items c.loop-k.k 64 c.loop-k-test.true, c.requires) in
-    let e = c.write_line-n.ensures in
-    let a = c.args in (
-      omega (arith, c.loop-k-test.true),
-      rw (line-more a.items.now a.cars l.k)
-          (more-put _ _ _ _ _ _ _ l.invariant.1 (omega (arith, h, (c.write_line-n.ensures.number ∙ line-size _ _ _))) e),
-    )
+    let k = c.loop-k.k in
+    let p = c.loop-k.invariant in
+    let h : c.loop-k.at + 17 * line_of (get_or items k 0) ≤ length c.args.out.now =
+    omega (arith, p.number, lines-size items c.args.cars k, lines-before items k 64 c.loop-k-test.true, c.requires) in
+    let e = c.write_line-at.ensures in
+    rw (line-more items c.args.cars k) (more-put _ _ _ _ _ _ _ p (omega (arith, h, (e.number ∙ line-size _ _ _))) e)
 
 pub returns : goal.returns
 returns c =
-    let l = c.loop-k in
-    let a = c.args in
-    let e : l.k ≡ 64 = omega (arith, c.loop-k-test.false, l.invariant.0) in
-    put_as (ap (lines_in a.items.now a.cars) e) l.invariant.1
+    let e : c.loop-k.k ≡ 64 = omega arith in
+    put_as (ap (lines_in c.args.items.now c.args.cars) e) c.loop-k.invariant
