@@ -1,17 +1,17 @@
 -- `site_c::locals_of` meets its contract.
-use Rattle.site_c.specs.Plain.{locals_of}
+use Rattle.std.proofs.Common.{◌≡◌, ◌∙◌, ◌<◌, ℕ, sym, rules, arith, get_or}
+use lib.Seq.{ext_get_or}
+use Rattle.rules.specs.Below.{list_below}
+use Rattle.run.specs.State.{no_local}
+use Rattle.run.proofs.BelowLaws.{length-below, list_at}
+use Rattle.site_c.specs.Plain.{local_of, no_plain, plain_at, locals_of}
 use Rattle.site_c.proofs.locals_of.Goals as goal
 
 pub returns : goal.returns
 unfolding locals_of
 returns c =
-    rw (
-      c.local_of-z0.ensures,
-      c.local_of-z1.ensures,
-      c.local_of-z2.ensures,
-      c.local_of-z3.ensures,
-      c.local_of-z4.ensures,
-      c.local_of-z5.ensures,
-      c.local_of-z6.ensures,
-      c.local_of-z7.ensures,
-    )
+    let f = λ (i : ℕ). local_of (plain_at c.args.zones i) in
+    let h = c.map.ensures.items in
+    let at : (i : ℕ) → i < 8 → get_or c.map.result i no_local ≡ f i = λ i b. let (p, q, k) = h.at i no_plain no_local b in search rules in
+    ext_get_or no_local c.map.result (list_below 8 f) (h.long ∙ sym (length-below 8 f))
+    (λ i b. let b' : i < 8 = omega (arith, h.long) in at i b' ∙ sym (list_at 8 f no_local i b'))

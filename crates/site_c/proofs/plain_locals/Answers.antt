@@ -1,17 +1,17 @@
 -- `site_c::plain_locals` meets its contract.
-use Rattle.site_c.specs.Plain.{plain_locals}
+use Rattle.std.proofs.Common.{◌≡◌, ◌∙◌, ◌<◌, ℕ, sym, rules, arith, get_or}
+use lib.Seq.{ext_get_or}
+use Rattle.rules.specs.Below.{list_below}
+use Rattle.run.specs.State.{no_local}
+use Rattle.run.proofs.BelowLaws.{length-below, list_at}
+use Rattle.site_c.specs.Plain.{plain_local, no_plain, plain_locals}
 use Rattle.site_c.proofs.plain_locals.Goals as goal
 
 pub returns : goal.returns
 unfolding plain_locals
 returns c =
-    rw (
-      c.plain_local-z0.ensures,
-      c.plain_local-z1.ensures,
-      c.plain_local-z2.ensures,
-      c.plain_local-z3.ensures,
-      c.plain_local-z4.ensures,
-      c.plain_local-z5.ensures,
-      c.plain_local-z6.ensures,
-      c.plain_local-z7.ensures,
-    )
+    let f = λ (i : ℕ). plain_local (get_or c.args.zones i no_local) in
+    let h = c.map.ensures.items in
+    let at : (i : ℕ) → i < 8 → get_or c.map.result i no_plain ≡ f i = λ i b. let (p, q, k) = h.at i no_local no_plain b in search rules in
+    ext_get_or no_plain c.map.result (list_below 8 f) (h.long ∙ sym (length-below 8 f))
+    (λ i b. let b' : i < 8 = omega (arith, h.long) in at i b' ∙ sym (list_at 8 f no_plain i b'))
