@@ -6,6 +6,7 @@ use Prim.Native.Nat.{ℕ, zero, suc, ◌+◌, ◌/◌, ◌%◌, ◌<◌, ◌≤�
 use native.Mathlib.Numerals.{add-one}
 use native.Mathlib.Omega.{arith}
 use lib.Dec.{eqb}
+use mir.Val.{bool_byte}
 use lib.ListN.{length, get_or, drop, set, replicate, length-set, length-replicate, drop_of_length-le}
 use lib.Seq.{get_or-set_same, get_or-set_other, drop-cons, ext_get_or}
 use borrow.Author.Tests.{eqb-true, eqb-false, lt-ltb, le-ltb}
@@ -25,6 +26,10 @@ added seen h k t b = go (eqb h k) refl
 -- 1 where the test holds.
 abbrev pub one : Bool → ℕ
 one b = cond b 1 0
+
+pub byte_one : (b : Bool) → bool_byte b ≡ one b
+byte_one true = refl
+byte_one false = refl
 
 cons-one : (b : Bool) (w : ℕ) (xs : List ℕ) → length (cons-if b w xs) ≡ one b + length xs
 cons-one true w xs = omega arith
@@ -69,37 +74,27 @@ seen_none shown ws ns = record {
   each = λ k. omega (arith, none 256 k);
 }
 
-only : (e : Bool) → cond e 1 0 ≤ 1
-only true = omega arith
-only false = omega arith
+one-few : (e b : Bool) → cond e (one b) 0 ≤ 1
+one-few true true = omega arith
+one-few true false = omega arith
+one-few false b = omega arith
 
-nothing : (e : Bool) → ◌≡◌ {A = ℕ} (cond e 0 0) 0
-nothing true = refl
-nothing false = refl
-
--- One record more, whose event is inside those shown for the zone that acts by it, or is not.
-module _ {seen shown ws ns : List ℕ} {i high : ℕ} (s : Seen seen shown ws ns i) (l : i < length ws) (m : length ns ≡ length ws)
-    (eh : high ≡ get_or ws i 0 / 256) where
-  adds : (b : Bool) → is_in (get_or ns i 0) (get_or shown (owner_of high) 0) ≡ b → (k : ℕ)
-      → one (counts_at k shown (get_or ws i 0) (get_or ns i 0)) ≡ cond (eqb high k) (one b) 0
-  adds b e k = rw (← e, ← eh) (counts-one shown high (get_or ns i 0) k)
-
-  pub seen_inside : high < 256 → is_in (get_or ns i 0) (get_or shown (owner_of high) 0) ≡ true
-      → Seen (set seen high (get_or seen high 0 + 1)) shown ws ns (i + 1)
-  seen_inside h e =
-      let b : high < length seen = omega (arith, s.size) in
-      record {
-        size = length-set seen high (get_or seen high 0 + 1) ∙ s.size;
-        few = λ k. omega (arith, added seen high k 1 b, only (eqb high k), s.few k);
-        each = λ k. omega (arith, added seen high k 1 b, adds true e k, count_next shown ws ns k i l m, s.each k);
-      }
-
-  pub seen_outside : is_in (get_or ns i 0) (get_or shown (owner_of high) 0) ≡ false → Seen seen shown ws ns (i + 1)
-  seen_outside e = record {
-    size = s.size;
-    few = λ k. omega (arith, s.few k);
-    each = λ k. omega (arith, adds false e k, nothing (eqb high k), count_next shown ws ns k i l m, s.each k);
-  }
+pub seen_more : (seen shown ws ns : List ℕ) (i high limit t : ℕ) → Seen seen shown ws ns i → i < length ws → length ns ≡ length ws
+    → high ≡ get_or ws i 0 / 256 → high < 256 → limit ≡ get_or shown (owner_of high) 0 → t ≡ one (is_in (get_or ns i 0) limit)
+    → Seen (set seen high (get_or seen high 0 + t)) shown ws ns (i + 1)
+seen_more seen shown ws ns i high limit t s l m eh h el et =
+    let n = get_or ns i 0 in
+    let b : high < length seen = omega (arith, s.size) in
+    let f : t ≡ one (is_in n (get_or shown (owner_of high) 0)) = et ∙ ap (λ (x : ℕ). one (is_in n x)) el in
+    record {
+      size = length-set seen high (get_or seen high 0 + t) ∙ s.size;
+      few = λ k.
+          let y : cond (eqb high k) t 0 ≤ 1 = rw f (one-few (eqb high k) (is_in n (get_or shown (owner_of high) 0))) in
+          omega (arith, added seen high k t b, y, s.few k);
+      each = λ k.
+          let y : one (counts_at k shown (get_or ws i 0) n) ≡ cond (eqb high k) t 0 = rw (f, ← eh) (counts-one shown high n k) in
+          omega (arith, added seen high k t b, y, count_next shown ws ns k i l m, s.each k);
+    }
 
 -- The counts over all records.
 count_at_lem : (shown ws ns : List ℕ) (k : ℕ) → k < 256 → get_or (counts shown ws ns) k 0 ≡ count_at k shown ws ns

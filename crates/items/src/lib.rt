@@ -57,9 +57,7 @@ pub fn counted(words: &[u16], ordinals: &[u16], shown: [u16; ZONES]) -> [u16; HI
     let mut seen = [0u16; HIGH_BYTES];
     for (&word, &ordinal) in words.iter().zip(ordinals) {
         let high = high_byte(word);
-        if inside(ordinal, shown_for(&shown, high)) {
-            seen[high] += 1;
-        }
+        seen[high] += u16::from(inside(ordinal, shown_for(&shown, high)));
     }
     seen
 }
