@@ -1,5 +1,5 @@
 // The types and limits that the rules of mutable checkpointing speak of. The rules themselves are definitions (specs/), to be read beside
-// docs/RULES.md, sections 3 to 5 and demand 3, and the theorem over them stands in proofs/; this crate has no function.
+// docs/RULES.md, sections 3 to 5 and demand 3, and the theorem over them stands in proofs/; this crate has no function but the derived ones.
 
 #![tactic(auto)]
 
@@ -26,21 +26,21 @@ pub const PLACES: usize = MOST_ITEMS as usize;
 pub const RECORDS: usize = MOST_RECORDS as usize;
 
 // The ways through a gate ("direction"): cars drive in from the street, or out to it.
-#[derive(Clone, Copy)]
+#[derive(Clone, Copy, Debug, PartialEq, Eq)]
 pub enum Direction {
     In,
     Out,
 }
 
 // The stock and the number of own events that a checkpoint keeps.
-#[derive(Clone, Copy)]
+#[derive(Clone, Copy, Debug, PartialEq, Eq)]
 pub struct Saved {
     pub stock: u16,
     pub events: u16,
 }
 
 // A checkpoint ("mark"): none, mutable ("provisional") or permanent ("firm").
-#[derive(Clone, Copy)]
+#[derive(Clone, Copy, Debug, PartialEq, Eq)]
 pub enum Checkpoint {
     None,
     Mutable(Saved),
@@ -48,7 +48,7 @@ pub enum Checkpoint {
 }
 
 // The local state of one zone (docs/RULES.md, section 3). Its number, the zone count and the edition stand beside it.
-#[derive(Clone, Copy)]
+#[derive(Clone, Copy, Debug, PartialEq, Eq)]
 pub struct Local {
     pub stock: u16,
     pub deps: u8,
