@@ -7,6 +7,7 @@ use Rattle.rules.specs.Sets.{has, members}
 use Rattle.rules.specs.Site.{Item}
 use Rattle.channel.specs.Words.{item_of, request_word}
 use Rattle.channel.specs.declared.Channels.{Channels}
+use Rattle.channel.specs.declared.LentChannels.{LentChannels}
 
 -- An index for each ordered pair of zones, and the words of all.
 abbrev pub most_channels : ℕ
@@ -17,6 +18,10 @@ most_words = most_channels * places
 
 abbrev pub channels_as : List ℕ → List ℕ → Channels
 channels_as items lens = record { items = items; lens = lens }
+
+-- The channels whose arrays are lent.
+abbrev pub lent_as : LentChannels → Channels
+lent_as l = channels_as l.items.now l.lens.now
 
 -- The lists have the lengths of the arrays.
 abbrev pub Whole : Channels → Type 0

@@ -9,6 +9,8 @@ ghost use Rattle.channel.specs.Channels.{
   most_channels,
   channels_as,
   len_of,
+  words_on,
+  lent_as,
   is_channel,
   all_empty,
   pushed,
@@ -41,6 +43,47 @@ pub struct Channels {
     pub lens: [u8; CHANNELS],
 }
 
+// Channels whose two arrays are lent apart, as C lends them: for whoever only looks at them.
+#[derive(Clone, Copy)]
+pub struct LentChannels<'a> {
+    pub items: &'a [u16; WORDS],
+    pub lens: &'a [u8; CHANNELS],
+}
+
+impl<'a> LentChannels<'a> {
+    // The words on channel k, first in first: no more than its places, whatever its length.
+    pub fn on(self, k: usize) -> &'a [u16]
+        requires { k < most_channels }
+        ensures { result.now ≡ words_on (lent_as self.entry) k }
+    {
+        let at = k * PLACES;
+        let items = self.items;
+        &items[at..at + looked_at(self.lens[k])]
+    }
+
+    // Whether no channel from a zone holds an item: one test of eight bytes spares eight of a channel. Scan and same call it
+    // for a zone of a site.
+    pub fn is_empty_from(self, from: usize) -> bool
+        requires { from < most_zones }
+        ensures { result ≡ all_empty self.entry.lens.now from }
+    {
+        let at = from * ZONES;
+        let lens = self.lens;
+        lens[at..at + ZONES] == [0; ZONES]
+    }
+}
+
+impl Channels {
+    pub fn lend(&self) -> LentChannels<'_>
+        ensures { lent_as result ≡ self.now }
+    {
+        LentChannels {
+            items: &self.items,
+            lens: &self.lens,
+        }
+    }
+}
+
 // What taking the first item off a channel tells: its word, and the number of items that remain there, requests too.
 #[derive(Clone, Copy)]
 pub struct Taken {
@@ -66,31 +109,11 @@ pub fn is_channel(count: u8, k: usize) -> bool
     a & b & c
 }
 
-// Whether no channel from a zone holds an item: one test of eight bytes spares eight of a channel. Scan and same call it
-// for a zone of a site.
-pub fn all_empty(lens: &[u8; CHANNELS], from: usize) -> bool
-    requires { from < most_zones }
-    ensures { result ≡ all_empty lens.now from }
-{
-    let at = from * ZONES;
-    (lens[at] == 0)
-        & (lens[at + 1] == 0)
-        & (lens[at + 2] == 0)
-        & (lens[at + 3] == 0)
-        & (lens[at + 4] == 0)
-        & (lens[at + 5] == 0)
-        & (lens[at + 6] == 0)
-        & (lens[at + 7] == 0)
-}
-
 // The number of words that a channel of this length has: no more than its places.
 pub fn looked_at(len: u8) -> usize
     ensures { result ≡ min len places }
 {
-    if MOST_ITEMS < len {
-        return PLACES;
-    }
-    len as usize
+    len.min(MOST_ITEMS) as usize
 }
 
 // One item more at the end of a channel; a full channel stays as it is. Steps calls it with an index that `channel_index` gave.

@@ -32,6 +32,21 @@ pub all_of : (n : ℕ) (f : ℕ → Bool) → ((i : ℕ) → i < n → f i ≡ t
 all_of zero f h = refl
 all_of (suc n) f h = rw (all_of n f (λ i b. h i (omega arith))) (h n (omega arith))
 
+-- One number that fails the test, and neither those below n nor those below more pass it.
+pub one-out : (n : ℕ) (f : ℕ → Bool) (i : ℕ) → i < n → f i ≡ false → all_below n f ≡ false
+one-out n f i h e = go (all_below n f) refl
+  where
+    go : (b : Bool) → all_below n f ≡ b → b ≡ false
+    go true d = sym (all-at n f d i h) ∙ e
+    go false d = refl
+
+pub more-out : (n m : ℕ) (f : ℕ → Bool) → n ≤ m → all_below n f ≡ false → all_below m f ≡ false
+more-out n m f h e = go (all_below m f) refl
+  where
+    go : (b : Bool) → all_below m f ≡ b → b ≡ false
+    go true d = sym (all_of n f (λ i b. all-at m f d i (omega arith))) ∙ e
+    go false d = refl
+
 pub any_none : (n : ℕ) (f : ℕ → Bool) → any_below n f ≡ false → (i : ℕ) → i < n → f i ≡ false
 any_none zero f e i h = absurd (not-suc-le-zero h)
 any_none (suc n) f e i h = go (λ b. any_none n f (or-off-left (any_below n f) (f n) e) i b) (split i n h)

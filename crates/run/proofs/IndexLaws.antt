@@ -1,7 +1,7 @@
 -- Tests and sums over the indices for channels, zone by zone: one index more, and the indices of one zone more. What is true, or 0, adds
 -- nothing and need not be looked at.
 use mathlib.Core.Path.{◌≡◌, sym, ◌∙◌, ap}
-use mathlib.Core.Bool.{Bool, true, ◌&&◌, and-true}
+use mathlib.Core.Bool.{Bool, true, false, ◌&&◌, and-true, and-false}
 use mathlib.Core.List.{List}
 use Prim.Native.Nat.{ℕ, ◌+◌, ◌*◌, ◌<◌}
 use native.Mathlib.Nat.{add-zero}
@@ -12,7 +12,7 @@ use lib.ListN.{get_or}
 use Rattle.rules.specs.Below.{all_below, sum_below}
 use Rattle.channel.specs.Channels.{channel_index, all_empty}
 use Rattle.rules.proofs.Sums.{sum_same}
-use Rattle.run.proofs.BelowLaws.{all-at, all_of, all-next, all-add, sum-next, sum-add}
+use Rattle.run.proofs.BelowLaws.{all-at, all_of, more-out, all-next, all-add, sum-next, sum-add}
 
 next-zone : (from : ℕ) → from * 8 + 8 ≡ (from + 1) * 8
 next-zone from = omega arith
@@ -31,6 +31,10 @@ module _ (f : ℕ → Bool) (from : ℕ) (s : Bool) where
 
   pub all_none : s ≡ all_below (from * 8) f → ((j : ℕ) → j < 8 → f (channel_index from j) ≡ true) → s ≡ all_below ((from + 1) * 8) f
   all_none g h = sym (and-true s) ∙ all-zone true g (sym (all_of 8 (λ j. f (channel_index from j)) h))
+
+-- Where a test fails at an index for a channel from one zone, it fails among all.
+pub zone-out : (f : ℕ → Bool) (from : ℕ) → from < 8 → all_below 8 (λ j. f (channel_index from j)) ≡ false → all_below 64 f ≡ false
+zone-out f from h e = more-out (from * 8 + 8) 64 f (omega arith) (all-add (from * 8) 8 f ∙ rw e (and-false _))
 
 module _ (f : ℕ → ℕ) (from n : ℕ) where
   pub sum-index : (to k : ℕ) → k ≡ channel_index from to → (m : ℕ) → n ≡ sum_below to (λ j. f (channel_index from j)) → m ≡ f k

@@ -1,26 +1,39 @@
--- `scan::channel` meets its contract, by what the items before the next one add up to.
-use Rattle.std.proofs.Common.{◌≡◌, ◌<◌, arith, min}
-use lib.Dec.{leb}
-use Rattle.channel.specs.Channels.{channels_as, len_of}
-use Rattle.scan.proofs.Laws.{sound-item, cars-item, sound-items, cars-items}
+-- `scan::channel` meets its contract.
+use Rattle.std.proofs.Common.{◌+◌, ◌∙◌, ap₂, refl, arith, add-one}
+use borrow.Author.Tests.{lt-leb, le-leb}
+use Rattle.channel.specs.Channels.{lent_as}
+use Rattle.run.specs.State.{channel_sound}
+use Rattle.scan.proofs.Laws.{is-none, is-some, some-is, none-is, sets_more, cars-more, sets_out, words_all, words-few}
 use Rattle.scan.proofs.channel.Goals as goal
 
-pub loop-p-preserved : goal.loop-p-preserved
-loop-p-preserved c =
-    let a = c.args in
-    let b = c.loop-p in
-    let l = channels_as a.items.now a.lens.now in
-    let h : b.p < min (len_of l a.k) 16 = omega (arith, c.looked_at-n.ensures, c.loop-p-test.true) in (
-      omega arith,
-      sound-item l a.k b.p h a.terms.count (leb (len_of l a.k) 16) _ _ b.invariant.1 c.item-one.ensures.0,
-      cars-item l a.k b.p h _ _ b.invariant.2 c.item-one.ensures.1,
-      omega (arith, c.item-one.ensures.2, b.invariant.3),
+pub returns-then-channels-k-gt-MOST_ITEMS-clause-held : goal.returns-then-channels-k-gt-MOST_ITEMS-clause-held
+unfolding channel_sound
+returns-then-channels-k-gt-MOST_ITEMS-clause-held c = is-none _ _ (rw (lt-leb _ _ c.if-channels-k-gt-MOST_ITEMS.true))
+
+pub loop-word-init : goal.loop-word-init
+loop-word-init c = (rw (c.on-words.ensures) (words-few (lent_as c.args.channels) c.args.k), refl, refl, omega arith)
+
+pub returns-in_err-cars-clause-held : goal.returns-in_err-cars-clause-held
+unfolding channel_sound
+returns-in_err-cars-clause-held c =
+    let ws = c.on-words.result.now in
+    let e = sets_out c.args.terms.count ws c.loop-word.word-index c.loop-word-test.true (none-is _ _ c.in_err-cars.ensures.held) in
+    c.from_residual.ensures ∙ is-none _ _ (rw (le-leb _ _ c.if-channels-k-gt-MOST_ITEMS.false) (rw (c.on-words.ensures) at e))
+
+pub loop-word-preserved : goal.loop-word-preserved
+loop-word-preserved c =
+    let b = c.loop-word in
+    let ws = c.on-words.result.now in
+    let one = some-is _ _ _ c.in_ok-cars.ensures.held in (
+      b.invariant.0,
+      rw (add-one b.word-index, sets_more c.args.terms.count ws b.word-index, b.invariant.1) one.0,
+      rw (add-one b.word-index, cars-more ws b.word-index) (ap₂ ◌+◌ b.invariant.2 one.1),
+      omega (arith, c.in_ok-cars.ensures.few, b.invariant.3),
     )
 
-pub returns : goal.returns
-returns c =
-    let a = c.args in
-    let b = c.loop-p in
-    let l = channels_as a.items.now a.lens.now in
-    let e : b.p ≡ min (len_of l a.k) 16 = omega (arith, c.looked_at-n.ensures) in
-    (sound-items a.terms l a.k _ e _ b.invariant.1, cars-items l a.k _ e _ b.invariant.2, omega (arith, b.invariant.3))
+pub returns-clause-held : goal.returns-clause-held
+unfolding channel_sound
+returns-clause-held c =
+    let b = c.loop-word in
+    let e = words_all _ _ b.word-index c.on-words.ensures c.loop-word-test.false in
+    is-some _ _ _ (rw (le-leb _ _ c.if-channels-k-gt-MOST_ITEMS.false) (rw (e) at b.invariant.1)) (rw (e) at b.invariant.2)

@@ -1,20 +1,11 @@
--- `scan::channel` meets its contract, by what the items before the next one add up to.
-use mathlib.Core.Path.{◌≡◌}
-use mathlib.Core.Bool.{◌&&◌}
-use mathlib.Core.List.{map}
-use Prim.Native.Nat.{◌-◌, ◌*◌, ◌≤◌}
-use lib.Dec.{leb}
-use lib.ListN.{take}
+-- The words before the next one: their sets name only zones of the site, and the cars are theirs.
+use Rattle.std.proofs.Common.{◌≡◌, ◌*◌, ◌≤◌, true, length, take, map}
 use Rattle.channel.specs.Words.{item_of}
-use Rattle.channel.specs.Channels.{channels_as, words_on}
 use Rattle.run.specs.State.{sets_within, cars_of}
 use Rattle.scan.proofs.channel.Given as goal
 
-abbrev pub invariant-loop-p : goal.invariant-loop-p
-invariant-loop-p l =
-    (l.p ≤ l.n) × (l.sound ≡ (leb l.len 16 && sets_within l.terms.count (map item_of (take l.p (words_on (channels_as l.items l.lens) l.k)))))
-    × (l.cars ≡ cars_of (map item_of (take l.p (words_on (channels_as l.items l.lens) l.k))))
-    × (l.cars ≤ 255 * l.p)
-
-abbrev pub decreases-loop-p : goal.decreases-loop-p
-decreases-loop-p l = l.n - l.p
+abbrev pub invariant-loop-word : goal.invariant-loop-word
+invariant-loop-word l =
+    (length l.words ≤ 16) × (sets_within l.terms.count (map item_of (take l.word-index l.words)) ≡ true)
+    × (l.cars ≡ cars_of (map item_of (take l.word-index l.words)))
+    × (l.cars ≤ 255 * l.word-index)

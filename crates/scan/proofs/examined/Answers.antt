@@ -1,52 +1,91 @@
--- `scan::examined` meets its contract.
-use Rattle.std.proofs.Common.{◌≡◌, ◌+◌, ◌&&◌, ℕ, Bool, true, false, sym, ◌∙◌, ap₂}
-use mathlib.Core.Bool.{true≢false}
-use lib.Dec.{leb}
+-- `scan::examined` meets its contract: the questions of a run's parts, one after another.
+use Rattle.std.proofs.Common.{◌≡◌, ◌+◌, ◌<◌, ◌≤◌, ℕ, true, false, sym, ◌∙◌, ap₂}
+use borrow.Author.Tests.{lt-leb, le-leb}
 use Rattle.rules.specs.Edition.{is_edition}
 use Rattle.rules.specs.Questions.{is_count}
 use Rattle.rules.proofs.QuestionLaws.{count-high}
 use Rattle.channel.specs.declared.Channels.{Channels}
 use Rattle.run.specs.State.{terms_of, edition_of, count_of, locals_sound, channels_sound, stocks, cars_on_channels, parts_sound}
 use Rattle.run.specs.declared.Head.{Head}
+use Rattle.scan.proofs.Laws.{some-is, none-is, is-some, is-none}
 use Rattle.scan.proofs.examined.Goals as goal
 
--- A state that is not sound: of its cars nothing is said.
-unsound-is : {s : Bool} {A : Type 0} (b : Bool) → s ≡ false → b ≡ false → (s ≡ b) × (s ≡ true → A)
-unsound-is b e f = (e ∙ sym f, λ t. absurd (true≢false (sym t ∙ e)))
+module _ (h : Head) (l : Channels) where
+  no-edition : is_edition (edition_of h) ≡ false → parts_sound h l ≡ false
+  unfolding parts_sound
+  no-edition e = rw e
 
-no-edition : (h : Head) (l : Channels) → is_edition (edition_of h) ≡ false → parts_sound h l ≡ false
-unfolding parts_sound
-no-edition h l e = rw e
+  no-count : is_edition (edition_of h) ≡ true → is_count (count_of h) ≡ false → parts_sound h l ≡ false
+  unfolding parts_sound
+  no-count d e = rw (d, e)
 
-no-count : (h : Head) (l : Channels) → is_edition (edition_of h) ≡ true → is_count (count_of h) ≡ false → parts_sound h l ≡ false
-unfolding parts_sound
-no-count h l d e = rw (d, e)
+  module _ (d : is_edition (edition_of h) ≡ true) (e : is_count (count_of h) ≡ true) where
+    long : 1000 < h.records → parts_sound h l ≡ false
+    unfolding parts_sound
+    long r = rw (d, e, lt-leb _ _ r)
+
+    module _ (r : h.records ≤ 1000) where
+      no-locals : locals_sound h ≡ false → parts_sound h l ≡ false
+      unfolding parts_sound
+      no-locals f = rw (d, e, le-leb _ _ r, f)
+
+      no-channels : locals_sound h ≡ true → channels_sound (terms_of h) l ≡ false → parts_sound h l ≡ false
+      unfolding parts_sound
+      no-channels f g = rw (d, e, le-leb _ _ r, f, g)
+
+      module _ (f : locals_sound h ≡ true) (g : channels_sound (terms_of h) l ≡ true) (m n : ℕ) (p : m ≡ stocks h) (q : n ≡ cars_on_channels (count_of h) l) where
+        many : 65535 < m + n → parts_sound h l ≡ false
+        unfolding parts_sound
+        many s = rw (d, e, le-leb _ _ r, f, g, ← p, ← q) (lt-leb _ _ s)
+
+        all-parts : m + n ≤ 65535 → parts_sound h l ≡ true
+        unfolding parts_sound
+        all-parts s = rw (d, e, le-leb _ _ r, f, g, ← p, ← q) (le-leb _ _ s)
 
 pub returns-then-not-is_edition : goal.returns-then-not-is_edition
-returns-then-not-is_edition c = unsound-is _ c.unsound.ensures (no-edition _ _ (sym c.is_edition.ensures ∙ c.if-not-is_edition.true))
+returns-then-not-is_edition c = is-none _ _ (no-edition _ _ (sym c.is_edition.ensures ∙ c.if-not-is_edition.true))
 
 pub returns-then-not-is_count : goal.returns-then-not-is_count
 returns-then-not-is_count c =
-    unsound-is _ c.unsound-then-not-is_count.ensures
-    (no-count _ _ (sym c.is_edition.ensures ∙ c.if-not-is_edition.false) (sym c.is_count.ensures ∙ c.if-not-is_count.true))
+    is-none _ _ (no-count _ _ (sym c.is_edition.ensures ∙ c.if-not-is_edition.false) (sym c.is_count.ensures ∙ c.if-not-is_count.true))
 
-pub zones_of-a-requires : goal.zones_of-a-requires
-zones_of-a-requires c = count-high _ (sym c.is_count.ensures ∙ c.if-not-is_count.false)
+pub returns-then-head-gt-MOST_RECORDS : goal.returns-then-head-gt-MOST_RECORDS
+returns-then-head-gt-MOST_RECORDS c =
+    is-none _ _
+    (long _ _ (sym c.is_edition.ensures ∙ c.if-not-is_edition.false) (sym c.is_count.ensures ∙ c.if-not-is_count.false) c.if-head-gt-MOST_RECORDS.true)
 
-pub channels-b-requires : goal.channels-b-requires
-channels-b-requires c = count-high _ (sym c.is_count.ensures ∙ c.if-not-is_count.false)
+pub zones_of-requires : goal.zones_of-requires
+zones_of-requires c = count-high _ (sym c.is_count.ensures ∙ c.if-not-is_count.false)
 
-all-parts : (h : Head) (l : Channels) (a b : Bool) (m n : ℕ) → is_edition (edition_of h) ≡ true
-    → is_count (count_of h) ≡ true
-    → a ≡ locals_sound h → m ≡ stocks h → b ≡ channels_sound (terms_of h) l → n ≡ cars_on_channels (count_of h) l
-    → leb h.records 1000 && a && b && leb (m + n) 65535 ≡ parts_sound h l
-unfolding parts_sound
-all-parts h l a b m n d e f g i j = rw (d, e, f, g, i, j)
+pub returns-in_err-held : goal.returns-in_err-held
+returns-in_err-held c =
+    c.from_residual.ensures
+    ∙ is-none _ _
+    (no-locals _ _ (sym c.is_edition.ensures ∙ c.if-not-is_edition.false) (sym c.is_count.ensures ∙ c.if-not-is_count.false) c.if-head-gt-MOST_RECORDS.false
+    (none-is _ _ c.in_err-held.ensures.held))
 
-pub returns : goal.returns
-returns c =
-    let z = c.zones_of-a.ensures in
-    let l = c.channels-b.ensures in (
-      all-parts _ _ _ _ _ _ (sym c.is_edition.ensures ∙ c.if-not-is_edition.false) (sym c.is_count.ensures ∙ c.if-not-is_count.false) z.0 z.1 l.0 l.1,
-      λ _. ap₂ ◌+◌ z.1 l.1,
-    )
+pub channels-requires : goal.channels-requires
+channels-requires c = count-high _ (sym c.is_count.ensures ∙ c.if-not-is_count.false)
+
+pub returns-in_err-moving : goal.returns-in_err-moving
+returns-in_err-moving c =
+    c.from_residual-in_err-moving.ensures
+    ∙ is-none _ _
+    (no-channels _ _ (sym c.is_edition.ensures ∙ c.if-not-is_edition.false) (sym c.is_count.ensures ∙ c.if-not-is_count.false) c.if-head-gt-MOST_RECORDS.false
+    (some-is _ _ _ c.in_ok-held.ensures.held).0
+    (none-is _ _ c.in_err-moving.ensures.held))
+
+pub returns-then-cars-le-MOST_SUM : goal.returns-then-cars-le-MOST_SUM
+returns-then-cars-le-MOST_SUM c =
+    let z = some-is _ _ _ c.in_ok-held.ensures.held in
+    let l = some-is _ _ _ c.in_ok-moving.ensures.held in
+    is-some _ _ _
+    (all-parts _ _ (sym c.is_edition.ensures ∙ c.if-not-is_edition.false) (sym c.is_count.ensures ∙ c.if-not-is_count.false) c.if-head-gt-MOST_RECORDS.false z.0 l.0 _ _ z.1 l.1 c.if-cars-le-MOST_SUM.true)
+    (ap₂ ◌+◌ z.1 l.1)
+
+pub returns-else-cars-le-MOST_SUM : goal.returns-else-cars-le-MOST_SUM
+returns-else-cars-le-MOST_SUM c =
+    let z = some-is _ _ _ c.in_ok-held.ensures.held in
+    let l = some-is _ _ _ c.in_ok-moving.ensures.held in
+    is-none _ _
+    (many _ _ (sym c.is_edition.ensures ∙ c.if-not-is_edition.false) (sym c.is_count.ensures ∙ c.if-not-is_count.false) c.if-head-gt-MOST_RECORDS.false z.0 l.0 _ _ z.1 l.1 c.if-cars-le-MOST_SUM.false)
