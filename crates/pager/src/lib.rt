@@ -11,17 +11,17 @@ ghost use Rattle.run.specs.Layout.{second_weight};
 ghost use Rattle.text.specs.Text.{space, line_feed, column_text};
 ghost use Rattle.words.specs.Bytes.{words_from};
 ghost use Rattle.words.specs.Header.{zones_weight};
+ghost use Rattle.journal.specs.Answers.{written_answer, journal_answer};
 ghost use Rattle.recording.specs.Layout.{permanent_weight, events_values};
 ghost use Rattle.page.specs.Layout.{line_bytes, firm_code, zone_text, channel_text, total_text};
 ghost use Rattle.page.specs.Call.{page_call};
 ghost use Rattle.page.specs.Journal.{page_journal};
 ghost use Rattle.pager.specs.InnerLines.{Put, zone_lines, item_numbers, table_of, line_at, lines_in, lines_number, Holds, page_in, sized_page};
-ghost use Rattle.journal.specs.declared.Written.{Written};
-ghost use Rattle.journal.specs.declared.JournalWritten.{JournalWritten};
 
 use channel::CHANNELS;
-use journal::{JournalWritten, Written};
+use journal::JournalRefusal;
 use page::LINE_BYTES;
+use questions::Refusal;
 use recording::{EVENTS_VALUES, PERMANENT_WEIGHT, RECORDING_BYTES};
 use rules::ZONES;
 use run::{Run, SECOND_WEIGHT};
@@ -165,16 +165,6 @@ fn cars_table(recording: &[u8], at: usize, number: usize) -> [[u32; ZONES]; ZONE
     cars
 }
 
-// A refusal's number, with nothing written.
-fn refused(n: u8) -> Written
-    ensures { result ≡ record { refusal = n; written = 0 } }
-{
-    Written {
-        refusal: n,
-        written: 0,
-    }
-}
-
 // All lines, by the bytes of a recording, the items on each channel, the table of their cars and the total. Question 14 has seen that there is
 // room.
 fn write_lines(
@@ -197,9 +187,9 @@ fn write_lines(
 }
 
 // Question 14, then the page of what the bytes of a recording show, with its total.
-fn write_page(recording: &[u8], total: u32, out: &mut [u8]) -> Written
+fn write_page(recording: &[u8], total: u32, out: &mut [u8]) -> Result<usize, Refusal>
     requires { Holds recording.now }
-    ensures { (result ≡ (sized_page out.old (page_in recording.now total)).answer)
+    ensures { (written_answer result ≡ (sized_page out.old (page_in recording.now total)).answer)
         × (out.new ≡ (sized_page out.old (page_in recording.now total)).bytes) }
 {
     let header = words::word_at(recording, 0);
@@ -208,46 +198,28 @@ fn write_page(recording: &[u8], total: u32, out: &mut [u8]) -> Written
     let items = item_numbers(recording, 2 + 4 * count, number);
     let lines = count + count_lines(&items) + 1;
     if out.len() < LINE_BYTES * lines {
-        return refused(14);
+        return Err(Refusal::BytesTooFew);
     }
     let cars = cars_table(recording, 2 + 4 * count, number);
-    let written = write_lines(out, recording, count, &items, cars, total);
-    Written {
-        refusal: 0,
-        written,
-    }
+    Ok(write_lines(out, recording, count, &items, cars, total))
 }
 
 // Writes the page of a run's recording to the front of the lent bytes.
-pub fn page(run: Run, out: &mut [u8]) -> Written
-    ensures { (result ≡ (page_call run out.old).answer) × (out.new ≡ (page_call run out.old).bytes) }
+pub fn page(run: Run, out: &mut [u8]) -> Result<usize, Refusal>
+    ensures { (written_answer result ≡ (page_call run out.old).answer) × (out.new ≡ (page_call run out.old).bytes) }
 {
     let mut recording = [0u8; RECORDING_BYTES];
-    let done = recorder::record(run, &mut recording);
-    if done.refusal != 0 {
-        return refused(done.refusal);
-    }
+    let done = recorder::record(run, &mut recording)?;
     write_page(&recording, done.total, out)
 }
 
 // Reads a journal and writes the page of its run's recording to the front of the lent bytes.
-pub fn page_journal(journal: &[u8], out: &mut [u8]) -> JournalWritten
-    ensures { (result ≡ (page_journal journal.now out.old).answer)
+pub fn page_journal(journal: &[u8], out: &mut [u8]) -> Result<usize, JournalRefusal>
+    ensures { (journal_answer result ≡ (page_journal journal.now out.old).answer)
         × (out.new ≡ (page_journal journal.now out.old).bytes) }
 {
     let mut recording = [0u8; RECORDING_BYTES];
-    let done = recorder::record_journal(journal, &mut recording);
-    if done.refusal != 0 {
-        return JournalWritten {
-            refusal: done.refusal,
-            position: done.position,
-            written: 0,
-        };
-    }
-    let w = write_page(&recording, done.total, out);
-    JournalWritten {
-        refusal: w.refusal,
-        position: 0,
-        written: w.written,
-    }
+    let done = recorder::record_journal(journal, &mut recording)?;
+    let written = write_page(&recording, done.total, out)?;
+    Ok(written)
 }
