@@ -35,15 +35,17 @@ fn high_byte(word: u16) -> usize
 }
 
 // The events shown for the zone that acts, by the high byte of a record's word: the sender's for a message, the receiver's for a receipt.
-// A high byte is below 256.
+// A high byte is below 256. The events shown are lent, since a loop asks for each record: by value they would be copied each time.
 fn shown_for(shown: &[u16; ZONES], high: usize) -> u16
     requires { high < high_bytes }
     ensures { result ≡ get_or shown.now (owner_of high) 0 }
 {
-    if high < CHANNELS {
-        return shown[high / ZONES];
-    }
-    shown[high % ZONES]
+    let owner = if high < CHANNELS {
+        high / ZONES
+    } else {
+        high % ZONES
+    };
+    shown[owner]
 }
 
 // The records that are inside the events shown, counted by the high byte of their word: messages sent on the channel at index k stand
@@ -57,6 +59,7 @@ pub fn counted(words: &[u16], ordinals: &[u16], shown: [u16; ZONES]) -> [u16; HI
     let mut seen = [0u16; HIGH_BYTES];
     for (&word, &ordinal) in words.iter().zip(ordinals) {
         let high = high_byte(word);
+        // Added as a number, so that the loop has no branch.
         seen[high] += u16::from(inside(ordinal, shown_for(&shown, high)));
     }
     seen
@@ -88,18 +91,14 @@ fn begins(count: u8, seen: &[u16; HIGH_BYTES]) -> [usize; BEGINS]
 pub fn number(count: u8, seen: &[u16; HIGH_BYTES]) -> usize
     ensures { result ≡ item_number count seen.now }
 {
-    let begins = begins(count, seen);
-    begins[CHANNELS]
+    begins(count, seen)[CHANNELS]
 }
 
 // Whether a record is a message inside the sender's events shown, by the high byte of its word and its own-event ordinal.
 fn is_sent(high: usize, ordinal: u16, shown: &[u16; ZONES]) -> bool
     ensures { result ≡ is_sent high ordinal shown.now }
 {
-    if CHANNELS <= high {
-        return false;
-    }
-    inside(ordinal, shown[high / ZONES])
+    high < CHANNELS && inside(ordinal, shown[high / ZONES])
 }
 
 // The words of all items, by sender, then receiver, then order sent, from the front of the lent bytes on. What `counted` counted of these
