@@ -1,5 +1,4 @@
 -- The items among the records from the next one on are written.
-use Rattle.std.proofs.Common.{◌≤◌, length}
 use Rattle.items.specs.InnerItems.{begin_at}
 use Rattle.items.proofs.Walking.{Walked, Ahead, final}
 use Rattle.items.proofs.write.Given as goal

@@ -1,7 +1,5 @@
 -- `pager::item_numbers` meets its contract, by the numbers of the items before the next one.
-use Rattle.std.proofs.Common.{◌≡◌, ◌<◌, ◌/◌, ℕ, ◌∙◌, ap, arith}
-use Rattle.words.specs.Bytes.{words_from}
-use Rattle.pager.specs.InnerLines.{item_numbers}
+use Rattle.std.proofs.Common.{◌<◌, ◌/◌, arith}
 use Rattle.pager.proofs.Tables.{on-channel, items-none, items-room, items-next}
 use Rattle.pager.proofs.item_numbers.Goals as goal
 use Rattle.pager.proofs.item_numbers.Goals.{After-word_at-word}

@@ -1,5 +1,5 @@
 -- `recorder::cars_in` meets its contract: the low bytes are bytes, so that their sum fits.
-use Rattle.std.proofs.Common.{◌≡◌, ◌∙◌, rules, map, ◌≤◌, ℕ, ◌+◌, ◌*◌, refl, arith, get_or}
+use Rattle.std.proofs.Common.{◌∙◌, rules, ℕ, ◌+◌, ◌*◌, arith, get_or}
 use Rattle.std.proofs.lemmas.Iterator.{YieldsList-from_range, YieldsList-from_map}
 use Rattle.std.proofs.lemmas.Iterator.Consumers.{sum_from_yields_List, fits_from_yields_list}
 use Rattle.recorder.proofs.Ranges.{sum-range}

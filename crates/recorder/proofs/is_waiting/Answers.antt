@@ -1,5 +1,5 @@
 -- `recorder::is_waiting` meets its contract: its words are those of the channel.
-use Rattle.std.proofs.Common.{◌≡◌, ◌∙◌, ◌*◌, ◌-◌, ℕ, List, ap, rules, take, drop, map, arith}
+use Rattle.std.proofs.Common.{◌∙◌, ◌*◌, ℕ, List, ap, rules, take, drop, map, arith}
 use borrow.Author.Tests.{tests}
 use Rattle.std.proofs.lemmas.Iterator.{YieldsList-from_slice}
 use Rattle.std.proofs.lemmas.Iterator.Search.{any_from_yields_List}
@@ -7,7 +7,7 @@ use Rattle.std.proofs.lemmas.Grind.{common_steps}
 use lib.Dec.{leb}
 use Rattle.channel.specs.Words.{item_of}
 use Rattle.rules.specs.Site.{waits}
-use Rattle.channel.specs.Channels.{words_on, channels_as}
+use Rattle.channel.specs.Channels.{channels_as}
 use Rattle.recorder.proofs.Waiting.{waits-any, looked_words}
 use Rattle.recorder.proofs.is_waiting.Goals as goal
 

@@ -1,7 +1,6 @@
 -- `recorder::no_requests` meets its contract: the indices one after another.
-use Rattle.std.proofs.Common.{◌≡◌, ◌∙◌, rules, refl}
+use Rattle.std.proofs.Common.{◌∙◌, rules, refl}
 use borrow.Author.Tests.{tests}
-use Rattle.std.specs.List.{list_all, range_with_len}
 use Rattle.std.proofs.lemmas.Iterator.{YieldsList-from_range}
 use Rattle.std.proofs.lemmas.Iterator.Search.{all_from_yields_List}
 use Rattle.channel.specs.Channels.{channels_as}

@@ -1,5 +1,5 @@
 -- `recorder::stocks_in` meets its contract: the stocks are bytes' words, so that their sum fits.
-use Rattle.std.proofs.Common.{◌≡◌, ◌∙◌, rules, map, ◌≤◌, ℕ, ◌+◌, ◌*◌, refl, arith}
+use Rattle.std.proofs.Common.{◌∙◌, rules, arith}
 use Rattle.recording.specs.Shown.{stock_word}
 use Rattle.std.proofs.lemmas.Iterator.{YieldsList-from_range, YieldsList-from_map}
 use Rattle.std.proofs.lemmas.Iterator.Consumers.{sum_from_yields_List, fits_from_yields_list}

@@ -1,5 +1,5 @@
 -- `site_c::are_kinds` meets its contract: every zone's mark kind, at all eight indices.
-use Rattle.std.proofs.Common.{◌≡◌, ◌∙◌, ◌≤◌, ◌+◌, ◌&&◌, ℕ, zero, suc, Bool, List, length, take, get_or, refl, sym, ap, rules, arith, add-one}
+use Rattle.std.proofs.Common.{◌≡◌, ◌∙◌, ◌≤◌, ◌&&◌, ℕ, zero, suc, Bool, List, length, take, refl, sym, ap, rules, arith, add-one}
 use lib.Dec.{leb}
 use lib.Seq.{take_all}
 use borrow.Author.Tests.{tests}
