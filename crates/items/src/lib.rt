@@ -2,7 +2,7 @@
 
 #![tactic(auto, unfolding(crate::specs::InnerItems::is_sent, crate::specs::InnerItems::number_at, crate::specs::InnerItems::item_number))]
 
-ghost use Rattle.std.specs.Prelude.{◌≡◌, cond, ◌-◌, ◌*◌, ◌/◌, ◌<◌, ◌≤◌, length, get_or};
+ghost use Rattle.std.specs.Prelude.{◌≡◌, ◌*◌, ◌/◌, ◌<◌, ◌≤◌, length, get_or};
 ghost use Rattle.rules.specs.Limits.{most_records};
 ghost use Rattle.channel.specs.Channels.{most_channels};
 ghost use Rattle.run.specs.Layout.{second_weight};
