@@ -121,6 +121,7 @@ pub fn write(
     let begins = begins(count, seen);
     let mut ends = begins;
     let mut missing = begins[CHANNELS];
+    // By number: two iterators from the last record back would take a recording 4% more instructions.
     for i in (0..words.len()).rev() {
         if missing == 0 {
             break;
