@@ -8,8 +8,9 @@ use borrow.Author.Tests.{le-ltb}
 use borrow.Rule.Slice.PartMut.{mid_of}
 use lib.Dec.{eqb}
 use lib.ListN.{length, get_or, take, drop, replicate, length-take, length-drop}
-use lib.Seq.{get_or-take, get_or-drop, take-take, take_all}
+use lib.Seq.{get_or-take, get_or-drop, take-take, take_all, drop-drop}
 use Rattle.std.specs.Cmp.Lexicographic.{pointwise}
+use Rattle.std.specs.Simd.{first_chunks}
 use Rattle.rules.specs.Below.{all_below}
 use Rattle.channel.specs.Channels.{is_channel, channel_index, len_of, row, words_on, all_empty}
 use Rattle.channel.specs.declared.Channels.{Channels}
@@ -55,9 +56,17 @@ zeros (suc n) [] h = absurd (omega arith)
 zeros (suc n) (x ∷ xs) h =
     ap (λ (b : Bool). eqb x 0 && b) (zeros n xs (omega arith)) ∙ sym (all_front n (λ j. eqb (get_or (x ∷ xs) j 0) 0))
 
-pub empty-from : (lens : List ℕ) (from : ℕ) → length lens ≡ 64 → from < 8
-    → pointwise eqb (mid_of (from * 8) (from * 8 + 8 - from * 8) lens) (replicate 8 0) ≡ all_empty lens from
+-- The row of one zone's lengths.
+row-at : (k i : ℕ) (xs : List ℕ) → i < k → get_or (first_chunks 8 k xs) i [] ≡ take 8 (drop (i * 8) xs)
+row-at zero i xs h = absurd (omega arith)
+row-at (suc k) zero xs h = refl
+row-at (suc k) (suc i) xs h =
+    let e : 8 + i * 8 ≡ suc i * 8 = omega arith in
+    row-at k i (drop 8 xs) (omega arith) ∙ ap (take 8) (drop-drop (i * 8) 8 xs ∙ ap (λ (n : ℕ). drop n xs) e)
+
+pub empty-from : (lens : List ℕ) (from : ℕ) (rows : List (List ℕ)) → rows ≡ first_chunks 8 (length lens / 8) lens → length lens ≡ 64
+    → from < 8 → pointwise eqb (get_or rows from []) (replicate 8 0) ≡ all_empty lens from
 unfolding all_empty
-empty-from lens from h b =
-    let f : from * 8 + 8 - from * 8 ≡ 8 = omega arith in
-    rw f (zeros 8 (drop (from * 8) lens) (omega (arith, length-drop (from * 8) lens)) ∙ simp get_or-drop)
+empty-from lens from rows e h b =
+    let k : from < length lens / 8 = omega arith in
+    rw (e, row-at (length lens / 8) from lens k) (zeros 8 (drop (from * 8) lens) (omega (arith, length-drop (from * 8) lens)) ∙ simp get_or-drop)

@@ -67,9 +67,9 @@ impl<'a> LentChannels<'a> {
         requires { from < most_zones }
         ensures { result ≡ all_empty self.entry.lens.now from }
     {
-        let at = from * ZONES;
         let lens = self.lens;
-        lens[at..at + ZONES] == [0; ZONES]
+        let (rows, _) = lens.as_chunks::<ZONES>();
+        rows[from] == [0; ZONES]
     }
 }
 

@@ -81,5 +81,7 @@ pub fn same_state(a: Run, b: Run) -> bool
     ensures { result ≡ same_state a b }
 {
     let count = b.head.opening.terms.count;
-    same_zones(count, a.head, b.head) && same_channels(count, a.channels.lend(), b.channels.lend())
+    let x = a.channels;
+    let y = b.channels;
+    same_zones(count, a.head, b.head) && same_channels(count, x.lend(), y.lend())
 }

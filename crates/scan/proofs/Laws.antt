@@ -1,8 +1,9 @@
 -- What one item more adds to the scan of a channel; that an empty channel adds nothing, nor an index that the site has no channel at.
 use mathlib.Core.Path.{◌≡◌, refl, sym, ◌∙◌, ap}
-use mathlib.Core.Bool.{Bool, true, false, ◌&&◌, ◌||◌, not, cond, and-true, and-false, and_assoc}
+use mathlib.Core.Bool.{Bool, true, false, ◌&&◌, ◌||◌, not, cond, and-true, and_assoc}
 use mathlib.Core.List.{List, [], ◌∷◌, map}
 use Prim.Native.Nat.{ℕ, zero, suc, ◌+◌, ◌-◌, ◌*◌, ◌^◌, ◌<◌, ◌≤◌}
+use native.Mathlib.Numerals.{add-one}
 use native.Mathlib.Omega.{arith}
 use borrow.Author.Tests.{lt-ltb, le-ltb, ltb-true, ltb-false}
 use lib.Dec.{ltb}
@@ -11,6 +12,8 @@ use lib.Pow.{pow_pos}
 use lib.Seq.{take_all, get_or-take}
 use Rattle.rules.specs.Below.{all_below, any_below, sum_below}
 use Rattle.rules.specs.Sets.{within}
+use Rattle.rules.proofs.Tests.{below?}
+use mathlib.Core.Logic.{◌⊎◌, inl, inr}
 use Rattle.rules.specs.declared.Local.{Local}
 use Rattle.channel.specs.Words.{item_of, set_in, cars_in}
 use Rattle.channel.specs.Channels.{is_channel, channel_index, len_of, row, words_on}
@@ -35,7 +38,16 @@ below-limit count word h = go (ltb (word - 512) (2 ^ count)) refl
     go true e = let d = ltb-true (word - 512) (2 ^ count) e in lt-ltb word (512 + 2 ^ count) (omega arith)
     go false e = let d = ltb-false (word - 512) (2 ^ count) e in le-ltb word (512 + 2 ^ count) (omega arith)
 
-pub sets_more : (count : ℕ) (ws : List ℕ) (p : ℕ)
+-- So does every message's, whose set is empty.
+pub word-sound : (count word : ℕ) → ltb word (512 + 2 ^ count) ≡ within (set_in (item_of word)) count
+unfolding item_of
+word-sound count word = go (below? word 512)
+  where
+    go : (word < 512) ⊎ (512 ≤ word) → ltb word (512 + 2 ^ count) ≡ within (set_in (item_of word)) count
+    go (inl h) = rw (lt-ltb word 512 h, lt-ltb word (512 + 2 ^ count) (omega arith)) (sym (nobody-within count))
+    go (inr h) = rw (le-ltb word 512 h) (below-limit count word h)
+
+sets_more : (count : ℕ) (ws : List ℕ) (p : ℕ)
     → sets_within count (map item_of (take (suc p) ws)) ≡ sets_within count (map item_of (take p ws)) && within (set_in (item_of (get_or ws p 0))) count
 unfolding item_of
 sets_more count [] zero = sym (nobody-within count)
@@ -44,7 +56,7 @@ sets_more count (w ∷ ws) zero = and-true _
 sets_more count (w ∷ ws) (suc p) = ap (λ (b : Bool). within (set_in (item_of w)) count && b) (sets_more count ws p)
     ∙ sym (and_assoc (within (set_in (item_of w)) count) (sets_within count (map item_of (take p ws))) (within (set_in (item_of (get_or ws p 0))) count))
 
-pub cars-more : (ws : List ℕ) (p : ℕ)
+cars-more : (ws : List ℕ) (p : ℕ)
     → cars_of (map item_of (take (suc p) ws)) ≡ cars_of (map item_of (take p ws)) + cars_in (item_of (get_or ws p 0))
 unfolding item_of
 cars-more [] zero = refl
@@ -52,12 +64,14 @@ cars-more [] (suc p) = refl
 cars-more (w ∷ ws) zero = omega arith
 cars-more (w ∷ ws) (suc p) = let h = cars-more ws p in omega arith
 
--- One item whose set names another zone, and its channel is not sound.
-pub sets_out : (count : ℕ) (ws : List ℕ) (p : ℕ) → p < length ws → within (set_in (item_of (get_or ws p 0))) count ≡ false
-    → sets_within count (map item_of ws) ≡ false
-sets_out count [] p h e = absurd (omega arith)
-sets_out count (w ∷ ws) zero h e = rw e
-sets_out count (w ∷ ws) (suc p) h e = rw (sets_out count ws p (omega arith) e) (and-false _)
+-- One word more.
+pub sets-next : (count : ℕ) (ws : List ℕ) (i : ℕ) (b s t : Bool) → s ≡ b && sets_within count (map item_of (take i ws))
+    → t ≡ within (set_in (item_of (get_or ws i 0))) count → s && t ≡ b && sets_within count (map item_of (take (i + 1) ws))
+sets-next count ws i b s t e f = rw (add-one i, sets_more count ws i, e, f) (and_assoc b _ _)
+
+pub cars-next : (ws : List ℕ) (i n m : ℕ) → n ≡ cars_of (map item_of (take i ws)) → m ≡ cars_in (item_of (get_or ws i 0))
+    → n + m ≡ cars_of (map item_of (take (i + 1) ws))
+cars-next ws i n m e f = rw (add-one i, cars-more ws i, e, f)
 
 -- Once all words are looked at, they are the words of the channel.
 pub words_all : (ws vs : List ℕ) (i : ℕ) → ws ≡ vs → length ws ≤ i → take i ws ≡ vs
