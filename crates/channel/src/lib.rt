@@ -139,18 +139,16 @@ pub fn pop(items: &mut [u16; WORDS], lens: &mut [u8; CHANNELS], k: usize) -> Tak
     let at = k * PLACES;
     let last = at + LAST;
     let word = items[at];
-    for i in 0..LAST {
-        items[at + i] = items[at + i + 1];
-    }
+    items.copy_within(at + 1..at + PLACES, at);
     items[last] = 0;
     let remaining = lens[k] - 1;
     lens[k] = remaining;
     Taken { word, remaining }
 }
 
-// The number of the highest zone of a set whose channel is full; 0 where all have a free place. The next zone to be looked at is told by the
-// zeros before it in a word of 32 bits, since a byte would be widened at each turn. Steps calls it behind question 5, for a zone of a site;
-// searches behind a test of its own.
+// The number of the highest zone of a set whose channel is full; 0 where all have a free place. The loop makes a turn for each zone of the set
+// down to that one, and not one for each index: the next zone to be looked at is told by the zeros before it in a word of 32 bits, since a byte
+// would be widened at each turn. Steps calls it behind question 5, for a zone of a site; searches behind a test of its own.
 pub fn highest_full(lens: &[u8; CHANNELS], from: usize, to: u8) -> u8
     requires { from < most_zones }
     ensures { (items : List ℕ) → result ≡ highest_full (channels_as items lens.now) from to }
@@ -162,7 +160,7 @@ pub fn highest_full(lens: &[u8; CHANNELS], from: usize, to: u8) -> u8
         if MOST_ITEMS <= lens[k] {
             return j as u8 + 1;
         }
-        unseen = unseen & !(1u32 << j);
+        unseen &= !(1u32 << j);
     }
     0
 }
@@ -182,12 +180,10 @@ pub fn request_all(
 {
     let word = REQUEST_WEIGHT + set as u16;
     let mut rest = to;
-    let mut left = u8::count_ones(to);
-    while left != 0 {
+    for _ in 0..u8::count_ones(to) {
         let j = u8::trailing_zeros(rest) as usize;
         let at = channel_index(from, j);
         push(items, lens, at, word);
-        rest = rest & (rest - 1);
-        left -= 1;
+        rest &= rest - 1;
     }
 }
