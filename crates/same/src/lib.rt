@@ -73,15 +73,15 @@ fn same_channels(count: u8, a: LentChannels, b: LentChannels) -> bool
     true
 }
 
-// Whether a run has the state of another one, over the zones and channels of the other's site. Writer calls it for a
-// sound one, which has at most 8 zones.
+// Whether a run has the state of another one, over the zones and channels of the other's site. Writer calls it for a sound one, which has at most
+// 8 zones. Channels are taken out before they are lent, else the whole run is copied.
 #[tactic(auto, unfolding(journal::specs::Writing::same_state))]
 pub fn same_state(a: Run, b: Run) -> bool
     requires { count_of b.head ≤ most_zones }
     ensures { result ≡ same_state a b }
 {
     let count = b.head.opening.terms.count;
-    let x = a.channels;
-    let y = b.channels;
-    same_zones(count, a.head, b.head) && same_channels(count, x.lend(), y.lend())
+    let left = a.channels;
+    let right = b.channels;
+    same_zones(count, a.head, b.head) && same_channels(count, left.lend(), right.lend())
 }
