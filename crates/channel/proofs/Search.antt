@@ -5,15 +5,28 @@ use mathlib.Core.Logic.{◌≢◌, ◌⊎◌, inl, inr}
 use Prim.Native.Nat.{ℕ, zero, suc, ◌+◌, ◌-◌, ◌<◌, ◌≤◌}
 use native.Mathlib.Omega.{arith}
 use lib.Dec.{eqb}
-use borrow.Author.Tests.{lt-ltb, le-ltb, eq-eqb, ne_eqb, not-false}
+use borrow.Author.Tests.{lt-ltb, le-ltb, eq-eqb, ne_eqb, not-true, not-false}
 use Rattle.rules.specs.Questions.{index}
 use Rattle.rules.specs.Sets.{has, nobody}
 use Rattle.rules.proofs.Members.{has-off}
 use Rattle.rules.proofs.Tests.{or-off-left, or-off-right, and_left, Same, same?, below?}
-use Rattle.channel.specs.Channels.{channel_index, len_of, is_free, free_below, all_free, full_below, highest_full}
+use Rattle.channel.specs.Channels.{channel_index, len_of, is_free, free_below, all_free, full_below, highest_full, numbered}
+use Rattle.std.proofs.Common.{Option, Some, None}
+use Rattle.std.specs.Option.{is_some}
 use Rattle.channel.specs.Claims.{EachFree, IsHighestFull}
 use Rattle.channel.specs.declared.Channels.{Channels}
 use Rattle.channel.proofs.Highest.{highest, lower, highest-lt, highest-has, highest-most, lower-has}
+
+-- A number that names a zone is answered as it is, and 0 by none.
+pub is-numbered : (j n : ℕ) → j + 1 ≡ n → Some (j + 1) ≡ numbered n
+is-numbered j n e = rw (← e, ne_eqb (j + 1) 0 (λ (q : j + 1 ≡ 0). omega arith))
+
+names-one : (n : ℕ) → is_some (numbered n) ≡ not (eqb n 0)
+names-one n = go (eqb n 0)
+  where
+    go : (b : Bool) → is_some (cond {A = Option ℕ} b None (Some n)) ≡ not b
+    go true = refl
+    go false = refl
 
 module _ (l : Channels) (from to : ℕ) where
   -- What a number that names a zone names, and what it leaves above: all that is asked follows.
@@ -110,18 +123,18 @@ module _ (l : Channels) (from to : ℕ) where
   unfolding highest_full all_free
   all-free-none = none_below 8
 
-  pub some-full : (full : ℕ) → full ≡ highest_full l from to → full ≢ 0 → all_free l from to ≡ false
-  some-full full e h = sym all-free-none ∙ ne_eqb _ _ (λ (q : highest_full l from to ≡ 0). h (e ∙ q))
+  pub some-full : (full : Option ℕ) → full ≡ numbered (highest_full l from to) → is_some full ≡ true → all_free l from to ≡ false
+  some-full full e h = sym all-free-none ∙ not-true _ (sym (names-one (highest_full l from to)) ∙ ap is_some (sym e) ∙ h)
 
-  pub none-full : (full : ℕ) → full ≡ highest_full l from to → full ≡ 0 → all_free l from to ≡ true
-  none-full full e h = sym all-free-none ∙ eq-eqb _ _ (sym e ∙ h)
+  pub none-full : (full : Option ℕ) → full ≡ numbered (highest_full l from to) → is_some full ≡ false → all_free l from to ≡ true
+  none-full full e h = sym all-free-none ∙ not-false _ (sym (names-one (highest_full l from to)) ∙ ap is_some (sym e) ∙ h)
 
 -- Nobody is to be sent a request: none is named.
 pub highest-nobody : (l : Channels) (from : ℕ) → highest_full l from nobody ≡ 0
 highest-nobody l from = (highest-is l from nobody).free (λ i h e. absurd (false≢true (sym (has-off 0 0 i (omega arith) (omega arith)) ∙ e)))
 
 pub free-nobody : (l : Channels) (from : ℕ) → all_free l from nobody ≡ true
-free-nobody l from = none-full l from nobody 0 (sym (highest-nobody l from)) refl
+free-nobody l from = sym (all-free-none l from nobody) ∙ eq-eqb _ _ (highest-nobody l from)
 
 -- The highest zone of a set is looked at, by the channel's index k: where it is full the search ends, else it goes on with the lower ones.
 module _ (l : Channels) (from s k : ℕ) (h : s < 256) (p : 0 < s) (e : k ≡ channel_index from (highest s)) where

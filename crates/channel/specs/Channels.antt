@@ -1,6 +1,6 @@
 -- The channels ("lines") of a site: 64 of 16 places each in one list of 1,024 words, and their 64 lengths. The channel from the zone at
 -- index i to the zone at index j is at index i * 8 + j.
-use Rattle.std.specs.Prelude.{Bool, true, cond, ◌||◌, ◌&&◌, not, List, [], ◌∷◌, map, ◌≡◌, ℕ, zero, suc, ◌+◌, ◌-◌, ◌*◌, ◌/◌, ◌%◌, ◌<◌, ◌≤◌, ltb, eqb, length, get_or, set, take, drop}
+use Rattle.std.specs.Prelude.{Option, Some, None, Bool, true, cond, ◌||◌, ◌&&◌, not, List, [], ◌∷◌, map, ◌≡◌, ℕ, zero, suc, ◌+◌, ◌-◌, ◌*◌, ◌/◌, ◌%◌, ◌<◌, ◌≤◌, ltb, eqb, length, get_or, set, take, drop}
 use Rattle.rules.specs.Below.{all_below}
 use Rattle.rules.specs.Limits.{places, most_zones}
 use Rattle.rules.specs.Sets.{has, members}
@@ -96,6 +96,10 @@ full_below (suc n) l from to = cond (not (has to n) || is_free l (channel_index 
 -- "Looking for a free place on the lines that must take a request": from the highest zone to the lowest.
 unfoldable pub highest_full : Channels → ℕ → ℕ → ℕ
 highest_full l from to = full_below most_zones l from to
+
+-- What is answered of a zone by its number: none of 0, which names none.
+abbrev pub numbered : ℕ → Option ℕ
+numbered n = cond (eqb n 0) None (Some n)
 
 -- A word on the channel to each of some zones.
 abbrev pub sent_each : List ℕ → Channels → ℕ → ℕ → Channels

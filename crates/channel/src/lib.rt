@@ -17,6 +17,7 @@ ghost use Rattle.channel.specs.Channels.{
   popped,
   first_of,
   highest_full,
+  numbered,
   requested_all,
 };
 
@@ -146,23 +147,23 @@ pub fn pop(items: &mut [u16; WORDS], lens: &mut [u8; CHANNELS], k: usize) -> Tak
     Taken { word, remaining }
 }
 
-// The number of the highest zone of a set whose channel is full; 0 where all have a free place. The loop makes a turn for each zone of the set
+// The number of the highest zone of a set whose channel is full; none where all have a free place. The loop makes a turn for each zone of the set
 // down to that one, and not one for each index: the next zone to be looked at is told by the zeros before it in a word of 32 bits, since a byte
 // would be widened at each turn. Steps calls it behind question 5, for a zone of a site; searches behind a test of its own.
-pub fn highest_full(lens: &[u8; CHANNELS], from: usize, to: u8) -> u8
+pub fn highest_full(lens: &[u8; CHANNELS], from: usize, to: u8) -> Option<u8>
     requires { from < most_zones }
-    ensures { (items : List ℕ) → result ≡ highest_full (channels_as items lens.now) from to }
+    ensures { (items : List ℕ) → result ≡ numbered (highest_full (channels_as items lens.now) from to) }
 {
     let mut unseen = to as u32;
     while unseen != 0 {
         let j = 31 - u32::leading_zeros(unseen);
         let k = channel_index(from, j as usize);
         if MOST_ITEMS <= lens[k] {
-            return j as u8 + 1;
+            return Some(j as u8 + 1);
         }
         unseen &= !(1u32 << j);
     }
-    0
+    None
 }
 
 // A request, carrying a set, on the channel to each zone of another set: as many as that set has ones, the next one to the zone that

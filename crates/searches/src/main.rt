@@ -7,14 +7,14 @@ use channel::CHANNELS;
 use rules::ZONES;
 use std::io::{Read, Write};
 
-// The zone that is named, as a digit on a line. For a sender that no site has, or an answer of two digits, the line would be missing, and the
-// gate's comparison fail.
+// The zone that is named, as a digit on a line, 0 where none is. For a sender that no site has, or an answer of two digits, the line would be
+// missing, and the gate's comparison fail.
 fn print(output: &mut impl Write, lens: &[u8; CHANNELS], from: u8, to: u8) {
     let at = from as usize;
     if ZONES <= at {
         return;
     }
-    let zone = channel::highest_full(lens, at, to);
+    let zone = channel::highest_full(lens, at, to).unwrap_or(0);
     if zone < 10 {
         let line = [48 + zone, 10];
         let _ = output.write_all(&line);

@@ -58,11 +58,11 @@ returns-then-got-eq0 c = λ started held.
 pub highest_full-full-requires : goal.highest_full-full-requires
 highest_full-full-requires c = (pair 8 _ _ (behind (goal.at.highest_full-full-requires c).Else-records-ge-MOST_RECORDS).fits.0).to
 
-pub returns-then-full-ne0 : goal.returns-then-full-ne0
-returns-then-full-ne0 c = λ started held.
+pub returns-then-is_some : goal.returns-then-is_some
+returns-then-is_some c = λ started held.
     receive-10 _ _ _ _ _ started held _ c.channel_index-k.ensures.0 c.if-lens-k-eq0.false _ c.take-got.ensures _ refl
-    (some-full _ _ _ _ (c.highest_full-full.ensures _) c.if-full-ne0.true)
-    ∙ (behind (goal.at.returns-then-full-ne0 c).Else-records-ge-MOST_RECORDS).own _ started held
+    (some-full _ _ _ _ (c.highest_full-full.ensures _) (sym c.is_some.ensures ∙ c.if-is_some.true))
+    ∙ (behind (goal.at.returns-then-is_some c).Else-records-ge-MOST_RECORDS).own _ started held
 
 pub request_all-requires : goal.request_all-requires
 request_all-requires c = (pair 8 _ _ (behind (goal.at.request_all-requires c).Else-records-ge-MOST_RECORDS).fits.0).to
@@ -70,5 +70,5 @@ request_all-requires c = (pair 8 _ _ (behind (goal.at.request_all-requires c).El
 pub returns : goal.returns
 returns c = λ started held.
     receive-0 _ _ _ _ _ started held _ c.channel_index-k.ensures.0 c.if-lens-k-eq0.false _ c.take-got.ensures _ _ _ (behind (goal.at.returns c).Else-records-ge-MOST_RECORDS).fits.0
-    (none-full _ _ _ _ (c.highest_full-full.ensures _) c.if-full-ne0.false) c.pop-taken-2.ensures.2 c.pop-taken-2.ensures.1 c.request_all.ensures
+    (none-full _ _ _ _ (c.highest_full-full.ensures _) (sym c.is_some.ensures ∙ c.if-is_some.false)) c.pop-taken-2.ensures.2 c.pop-taken-2.ensures.1 c.request_all.ensures
     ∙ (behind (goal.at.returns c).Else-records-ge-MOST_RECORDS).own _ started held

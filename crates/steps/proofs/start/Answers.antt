@@ -27,10 +27,10 @@ start-got-requires c = (zone-sited 8 _ (behind-both (Start c.args.zone) _ _ _ _ 
 pub highest_full-full-requires : goal.highest_full-full-requires
 highest_full-full-requires c = (zone-sited 8 _ (behind-both (Start c.args.zone) _ _ _ _ c.requires tt (sym c.is_on.ensures ∙ c.if-not-is_on.false) c.if-records-ge-MOST_RECORDS.false).fits).1
 
-pub returns-then-full-ne0 : goal.returns-then-full-ne0
-returns-then-full-ne0 c = λ held.
+pub returns-then-is_some : goal.returns-then-is_some
+returns-then-is_some c = λ held.
     start-10 _ _ _ _ _ held c.if-started.false _ c.start-got.ensures _ refl
-    (some-full _ _ _ _ (c.highest_full-full.ensures _) c.if-full-ne0.true)
+    (some-full _ _ _ _ (c.highest_full-full.ensures _) (sym c.is_some.ensures ∙ c.if-is_some.true))
     ∙ (behind-both (Start c.args.zone) _ _ _ _ c.requires tt (sym c.is_on.ensures ∙ c.if-not-is_on.false) c.if-records-ge-MOST_RECORDS.false).own _ _ held
 
 pub request_all-requires : goal.request_all-requires
@@ -39,6 +39,6 @@ request_all-requires c = (zone-sited 8 _ (behind-both (Start c.args.zone) _ _ _ 
 pub returns : goal.returns
 returns c = λ held.
     let b = behind-both (Start c.args.zone) _ _ _ _ c.requires tt (sym c.is_on.ensures ∙ c.if-not-is_on.false) c.if-records-ge-MOST_RECORDS.false in
-    start-0 _ _ _ _ _ held c.if-started.false _ c.start-got.ensures _ (none-full _ _ _ _ (c.highest_full-full.ensures _) c.if-full-ne0.false)
+    start-0 _ _ _ _ _ held c.if-started.false _ c.start-got.ensures _ (none-full _ _ _ _ (c.highest_full-full.ensures _) (sym c.is_some.ensures ∙ c.if-is_some.false))
     c.request_all.ensures
     ∙ b.own _ _ held
