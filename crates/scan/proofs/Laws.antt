@@ -23,7 +23,8 @@ use Rattle.run.specs.State.{count_of, locals, no_local, zone_at, sets_within, ca
 use Rattle.run.specs.declared.Head.{Head}
 use Rattle.run.specs.declared.Terms.{Terms}
 use Rattle.run.proofs.BelowLaws.{all_end, sum-end}
-use Rattle.std.proofs.Common.{Some, None}
+use Rattle.std.proofs.Common.{Option, Some, None, ap₂}
+use Rattle.std.specs.Bool.{then_some}
 use Rattle.std.specs.List.{list_any}
 use Rattle.scan.specs.InnerAt.{if_sound, sound_at, cars_at, sound_from, cars_from}
 
@@ -95,6 +96,13 @@ is-some b n m e f = rw (e, f)
 
 pub is-none : (b : Bool) (n : ℕ) → b ≡ false → None ≡ if_sound b n
 is-none b n e = rw e
+
+pub then-sound : (b c : Bool) (n m : ℕ) (o : Option ℕ) → o ≡ then_some b n → b ≡ c → n ≡ m → o ≡ if_sound c m
+then-sound b c n m o e f g = e ∙ go b ∙ ap₂ if_sound f g
+  where
+    go : (t : Bool) → then_some t n ≡ if_sound t n
+    go true = refl
+    go false = refl
 
 -- An empty channel is sound and holds no cars.
 or-true : (b : Bool) → not b || true ≡ true

@@ -1,9 +1,9 @@
 -- `scan::channel` meets its contract, by what the words before the next one add up to.
-use Rattle.std.proofs.Common.{sym, ◌∙◌, refl, arith}
+use Rattle.std.proofs.Common.{sym, refl, arith}
 use mathlib.Core.Bool.{and-true}
 use Rattle.channel.specs.Channels.{lent_as}
 use Rattle.run.specs.State.{channel_sound}
-use Rattle.scan.proofs.Laws.{is-none, is-some, sets-next, cars-next, words_all, words-few}
+use Rattle.scan.proofs.Laws.{then-sound, sets-next, cars-next, words_all, words-few}
 use Rattle.scan.proofs.channel.Goals as goal
 
 pub loop-word-init : goal.loop-word-init
@@ -19,16 +19,9 @@ loop-word-preserved c =
       omega (arith, c.cars_in-cars.ensures.1, b.invariant.3),
     )
 
-pub returns-then-sound-clause-held : goal.returns-then-sound-clause-held
+pub returns-clause-held : goal.returns-clause-held
 unfolding channel_sound
-returns-then-sound-clause-held c =
+returns-clause-held c =
     let b = c.loop-word in
     let e = words_all _ _ b.word-index c.on-words.ensures c.loop-word-test.false in
-    is-some _ _ _ (rw (e) at (sym b.invariant.1 ∙ c.if-sound.true)) (rw (e) at b.invariant.2)
-
-pub returns-else-sound-clause-held : goal.returns-else-sound-clause-held
-unfolding channel_sound
-returns-else-sound-clause-held c =
-    let b = c.loop-word in
-    let e = words_all _ _ b.word-index c.on-words.ensures c.loop-word-test.false in
-    is-none _ _ (rw (e) at (sym b.invariant.1 ∙ c.if-sound.false))
+    then-sound _ _ _ _ _ c.then_some.ensures (rw (e) at b.invariant.1) (rw (e) at b.invariant.2)

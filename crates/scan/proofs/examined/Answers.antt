@@ -7,7 +7,8 @@ use Rattle.rules.proofs.QuestionLaws.{count-high}
 use Rattle.channel.specs.declared.Channels.{Channels}
 use Rattle.run.specs.State.{terms_of, edition_of, count_of, locals_sound, channels_sound, stocks, cars_on_channels, parts_sound}
 use Rattle.run.specs.declared.Head.{Head}
-use Rattle.scan.proofs.Laws.{some-is, none-is, is-some, is-none}
+use lib.Dec.{leb}
+use Rattle.scan.proofs.Laws.{then-sound, some-is, none-is, is-none}
 use Rattle.scan.proofs.examined.Goals as goal
 
 module _ (h : Head) (l : Channels) where
@@ -34,13 +35,9 @@ module _ (h : Head) (l : Channels) where
       no-channels f g = rw (d, e, le-leb _ _ r, f, g)
 
       module _ (f : locals_sound h ≡ true) (g : channels_sound (terms_of h) l ≡ true) (m n : ℕ) (p : m ≡ stocks h) (q : n ≡ cars_on_channels (count_of h) l) where
-        many : 65535 < m + n → parts_sound h l ≡ false
+        all-parts : leb (m + n) 65535 ≡ parts_sound h l
         unfolding parts_sound
-        many s = rw (d, e, le-leb _ _ r, f, g, ← p, ← q) (lt-leb _ _ s)
-
-        all-parts : m + n ≤ 65535 → parts_sound h l ≡ true
-        unfolding parts_sound
-        all-parts s = rw (d, e, le-leb _ _ r, f, g, ← p, ← q) (le-leb _ _ s)
+        all-parts = rw (d, e, le-leb _ _ r, f, g, ← p, ← q)
 
 pub returns-then-not-is_edition : goal.returns-then-not-is_edition
 returns-then-not-is_edition c = is-none _ _ (no-edition _ _ (sym c.is_edition.ensures ∙ c.if-not-is_edition.true))
@@ -75,17 +72,10 @@ returns-in_err-moving c =
     (some-is _ _ _ c.in_ok-held.ensures.held).0
     (none-is _ _ c.in_err-moving.ensures.held))
 
-pub returns-then-cars-le-MOST_SUM : goal.returns-then-cars-le-MOST_SUM
-returns-then-cars-le-MOST_SUM c =
+pub returns : goal.returns
+returns c =
     let z = some-is _ _ _ c.in_ok-held.ensures.held in
     let l = some-is _ _ _ c.in_ok-moving.ensures.held in
-    is-some _ _ _
-    (all-parts _ _ (sym c.is_edition.ensures ∙ c.if-not-is_edition.false) (sym c.is_count.ensures ∙ c.if-not-is_count.false) c.if-head-gt-MOST_RECORDS.false z.0 l.0 _ _ z.1 l.1 c.if-cars-le-MOST_SUM.true)
+    then-sound _ _ _ _ _ c.then_some.ensures
+    (all-parts _ _ (sym c.is_edition.ensures ∙ c.if-not-is_edition.false) (sym c.is_count.ensures ∙ c.if-not-is_count.false) c.if-head-gt-MOST_RECORDS.false z.0 l.0 _ _ z.1 l.1)
     (ap₂ ◌+◌ z.1 l.1)
-
-pub returns-else-cars-le-MOST_SUM : goal.returns-else-cars-le-MOST_SUM
-returns-else-cars-le-MOST_SUM c =
-    let z = some-is _ _ _ c.in_ok-held.ensures.held in
-    let l = some-is _ _ _ c.in_ok-moving.ensures.held in
-    is-none _ _
-    (many _ _ (sym c.is_edition.ensures ∙ c.if-not-is_edition.false) (sym c.is_count.ensures ∙ c.if-not-is_count.false) c.if-head-gt-MOST_RECORDS.false z.0 l.0 _ _ z.1 l.1 c.if-cars-le-MOST_SUM.false)
