@@ -3,3 +3,4 @@ pub mod Within
 pub mod Enough
 pub mod Overlong
 pub mod Wall
+pub mod Choice

@@ -1,11 +1,15 @@
 -- `report::page_text` meets its contract: the refusal of the journal or of its recording, or the page.
+use Rattle.std.proofs.Common.{refl}
+use Rattle.std.specs.Prelude.{Ok, Err}
+use Rattle.questions.proofs.RefusalLaws.{number-nonzero}
+use Rattle.journal.specs.Answers.{journal_answer}
 use Rattle.report.proofs.Wall.{refused-printed, page-printed}
 use Rattle.report.proofs.page_text.Goals as goal
 
-pub returns-then-paged-ne0 : goal.returns-then-paged-ne0
-returns-then-paged-ne0 c =
-    refused-printed _ _ _ c.page_journal-paged.ensures.0 _ _ _ c.page_journal-paged.ensures.1 c.if-paged-ne0.true c.refused.ensures
+pub returns-in-Ok : goal.returns-in-Ok
+returns-in-Ok c =
+    page-printed _ _ (journal_answer (Ok c.in-Ok.written)) c.in-Ok.ensures.0 _ c.in-Ok.ensures.1 refl
 
-pub returns : goal.returns
-returns c =
-    page-printed _ _ _ c.page_journal-paged.ensures.0 _ c.page_journal-paged.ensures.1 c.if-paged-ne0.false
+pub returns-in-Err : goal.returns-in-Err
+returns-in-Err c =
+    refused-printed _ _ (journal_answer (Err c.in-Err.e)) c.in-Err.ensures.0 _ _ _ c.in-Err.ensures.1 (number-nonzero _) c.refused.ensures
