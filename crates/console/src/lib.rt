@@ -1,65 +1,29 @@
 // Argument, standard input and output of the programs: the input is read until it ends or the space is full, and an answer written whole. Where a
 // read or a write fails it is said on standard error, and the programs end with status 0 all the same.
 
-#![tactic(auto, unfolding(crate::specs::Input::input_of))]
+#![tactic(auto)]
 
-ghost use Rattle.std.specs.Prelude.{◌≡◌, ℕ, ◌+◌, ◌<◌, ◌≤◌, length, take, drop};
+ghost use Rattle.std.specs.Prelude.{◌≡◌, ℕ, ◌<◌, ◌≤◌, length, take, Ok};
 ghost use Rattle.std.specs.Io.KnownBytes.{Consumes, IsAtEnd};
-ghost use Rattle.console.specs.Input.{input_of};
-ghost use Rattle.console.specs.declared.Input.TheVariants.{Bytes, Failed};
 
 use std::env::{Env, FillError};
 use std::io;
 use std::io::{Read, Write};
 
-// What reading gave: so many bytes, or a read failed.
-#[derive(Clone, Copy)]
-pub enum Input {
-    Bytes(usize),
-    Failed,
-}
-
-// What a read answered.
-fn input_of(got: io::Result<usize>) -> Input
-    ensures { result ≡ input_of got }
-{
-    match got {
-        Ok(n) => Input::Bytes(n),
-        Err(_) => Input::Failed,
-    }
-}
-
-// One read behind the first `at` bytes, which stay as they are; at the end of the input it gives 0. A read that a signal interrupts counts
-// as failed too.
-fn read_behind<I: Read>(input: &mut I, space: &mut [u8], at: usize) -> Input
-    requires { at ≤ length space.old }
-    ensures by_index { (n : ℕ) → result ≡ Bytes n → at + n ≤ length space.new }
-    ensures space_unchanged { take at space.new ≡ take at space.old }
-    ensures bytes { (n : ℕ) → result ≡ Bytes n → Consumes (I.remaining input.old) (I.remaining input.new) (take n (drop at space.new)) }
-    ensures end { result ≡ Bytes 0 → at < length space.new → IsAtEnd (I.remaining input.new) }
-{
-    let got = input.read(&mut space[at..]);
-    input_of(got)
-}
-
-// Reads until the input ends or the space is full.
-fn read_all<I: Read>(input: &mut I, space: &mut [u8]) -> Input
-    ensures within { (n : ℕ) → result ≡ Bytes n → n ≤ length space.new }
-    ensures bytes { (n : ℕ) → result ≡ Bytes n → Consumes (I.remaining input.old) (I.remaining input.new) (take n space.new) }
-    ensures end { (n : ℕ) → result ≡ Bytes n → n < length space.new → IsAtEnd (I.remaining input.new) }
+// Reads until the input ends or the space is full. A read that a signal interrupts counts as failed too.
+fn read_all<I: Read>(input: &mut I, space: &mut [u8]) -> io::Result<usize>
+    ensures within { (n : ℕ) → result ≡ Ok n → n ≤ length space.new }
+    ensures bytes { (n : ℕ) → result ≡ Ok n → Consumes (I.remaining input.old) (I.remaining input.new) (take n space.new) }
+    ensures end { (n : ℕ) → result ≡ Ok n → n < length space.new → IsAtEnd (I.remaining input.new) }
 {
     let mut at = 0;
     while at < space.len() {
-        let got = read_behind(input, space, at);
-        let Input::Bytes(n) = got else {
-            return Input::Failed;
-        };
-        if n == 0 {
-            return Input::Bytes(at);
+        match input.read(&mut space[at..])? {
+            0 => return Ok(at),
+            n => at += n,
         }
-        at += n;
     }
-    Input::Bytes(at)
+    Ok(at)
 }
 
 // The same for the program of this name, which says where a read fails.
@@ -68,18 +32,17 @@ pub fn read<I: Read>(
     errors: &mut impl Write,
     program: &[u8],
     space: &mut [u8],
-) -> Input
-    ensures within { (n : ℕ) → result ≡ Bytes n → n ≤ length space.new }
-    ensures bytes { (n : ℕ) → result ≡ Bytes n → Consumes (I.remaining input.old) (I.remaining input.new) (take n space.new) }
-    ensures end { (n : ℕ) → result ≡ Bytes n → n < length space.new → IsAtEnd (I.remaining input.new) }
+) -> io::Result<usize>
+    ensures within { (n : ℕ) → result ≡ Ok n → n ≤ length space.new }
+    ensures bytes { (n : ℕ) → result ≡ Ok n → Consumes (I.remaining input.old) (I.remaining input.new) (take n space.new) }
+    ensures end { (n : ℕ) → result ≡ Ok n → n < length space.new → IsAtEnd (I.remaining input.new) }
 {
     let got = read_all(input, space);
-    let Input::Bytes(n) = got else {
+    if got.is_err() {
         say(errors, program);
         say(errors, b": standard input could not be read\n");
-        return Input::Failed;
-    };
-    Input::Bytes(n)
+    }
+    got
 }
 
 // Writes an answer of the program of this name, which says where not all of it was written.
