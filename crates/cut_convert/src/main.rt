@@ -4,18 +4,33 @@
 
 #![tactic(auto)]
 
+ghost use Rattle.std.specs.Prelude.{◌≤◌, length};
+ghost use Rattle.conversion.specs.Call.{convert_call};
+ghost use Rattle.programs.specs.Made.{bytes_of};
+ghost use Rattle.cut_convert.specs.Converted.{Made};
+
+use conversion::Conversion;
 use journal::JOURNAL_BYTES;
-use programs::Job;
-use report::Choice;
+use programs::Output;
 
 // More than the longer name of a conversion has.
 const ARGUMENT_BYTES: usize = 16;
 
+// The conversion of a journal, at the front of the lent bytes, or its refusal.
+fn converted(conversion: Conversion, journal: &[u8], out: &mut [u8]) -> Output
+    ensures within { bytes_of result ≤ length out.new }
+    ensures made { Made (convert_call conversion journal.now out.old) out.new result }
+{
+    match converter::convert(conversion, journal, out) {
+        Ok(written) => Output::Answer(written),
+        Err(e) => Output::Aside(text::refused(e.refusal.number(), out)),
+    }
+}
+
 fn main(rt: HostRuntime) {
     let mut argument = [0u8; ARGUMENT_BYTES];
     let n = console::argument(&rt, &mut argument);
-    let choice = report::chosen(&argument[..n]);
-    let Choice::Named(conversion) = choice else {
+    let Some(conversion) = report::chosen(&argument[..n]) else {
         console::say(&mut rt.stderr(), b"usage: cut_convert upgrade|downgrade\n");
         return;
     };
@@ -25,7 +40,7 @@ fn main(rt: HostRuntime) {
         &mut rt.stdout(),
         &mut rt.stderr(),
         b"cut_convert",
-        Job::Convert(conversion),
         &mut out,
+        |journal, out| converted(conversion, journal, out),
     );
 }

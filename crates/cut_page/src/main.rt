@@ -3,7 +3,7 @@
 #![tactic(auto)]
 
 use page::PAGE_BYTES;
-use programs::Job;
+use programs::Output;
 
 fn main(rt: HostRuntime) {
     let mut out = [0u8; PAGE_BYTES];
@@ -12,7 +12,7 @@ fn main(rt: HostRuntime) {
         &mut rt.stdout(),
         &mut rt.stderr(),
         b"cut_page",
-        Job::Page,
         &mut out,
+        |journal, out| Output::Answer(report::page_text(journal, out)),
     );
 }

@@ -2,7 +2,7 @@
 
 #![tactic(auto)]
 
-use programs::Job;
+use programs::Output;
 use report::TEXT_BYTES;
 
 fn main(rt: HostRuntime) {
@@ -12,7 +12,7 @@ fn main(rt: HostRuntime) {
         &mut rt.stdout(),
         &mut rt.stderr(),
         b"cut_recorder",
-        Job::Record,
         &mut out,
+        |journal, out| Output::Answer(report::report(journal, out)),
     );
 }
