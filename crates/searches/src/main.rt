@@ -16,7 +16,7 @@ fn print(output: &mut impl Write, lens: &[u8; CHANNELS], from: u8, to: u8) {
     }
     let zone = channel::highest_full(lens, at, to).unwrap_or(0);
     if zone < 10 {
-        let line = [48 + zone, 10];
+        let line = [b'0' + zone, b'\n'];
         let _ = output.write_all(&line);
     }
 }
