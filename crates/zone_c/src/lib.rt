@@ -124,7 +124,8 @@ pub fn saved_of(checkpoint: Checkpoint) -> PlainSaved
             stock: 0,
             events: 0,
         },
-        Checkpoint::Mutable(saved) | Checkpoint::Permanent(saved) => PlainSaved::from(saved),
+        Checkpoint::Mutable(saved) => PlainSaved::from(saved),
+        Checkpoint::Permanent(saved) => PlainSaved::from(saved),
     }
 }
 
