@@ -153,9 +153,13 @@ impl TryFrom<PlainZone> for Zone {
     ghost try_from_gives = { λ p r. r ≡ zone_if p };
 
     fn try_from(p: PlainZone) -> Result<Zone, Refusal> {
-        if 2 < p.mark {
-            return Err(Refusal::Unsound);
-        }
+        let saved = Saved::from(p.saved);
+        let checkpoint = match p.mark {
+            0 => Checkpoint::None,
+            1 => Checkpoint::Mutable(saved),
+            2 => Checkpoint::Permanent(saved),
+            _ => return Err(Refusal::Unsound),
+        };
         Ok(Zone {
             edition: p.edition,
             number: p.number,
@@ -163,7 +167,7 @@ impl TryFrom<PlainZone> for Zone {
             stock: p.stock,
             deps: p.deps,
             events: p.events,
-            checkpoint: mark_of(p.mark, p.saved),
+            checkpoint,
         })
     }
 }
