@@ -33,7 +33,7 @@ use Rattle.run.specs.declared.SiteCall.TheVariants.{Send, Receive, Start, Gate}
 use Rattle.run.specs.declared.Terms.{Terms}
 use Rattle.run.proofs.Facts.{channel-at, channel-index-lt, sound-high, sound-events, sound-first, sound-room, sound-total}
 use Rattle.run.proofs.Outcome.{pair, zone-sited, named-wider}
-use Rattle.steps.specs.InnerEffect.{Outcome, Effected, effect_as, unchanged, outcome_of, own_effect, further_questions, effect}
+use Rattle.steps.specs.InnerEffect.{Outcome, Effected, unchanged, outcome_of, own_effect, further_questions, effect}
 use Rattle.steps.specs.InnerReady.{Stands, Ready, Weighed, Fits}
 
 -- What readiness gives.
