@@ -16,6 +16,8 @@ stands in a static library and does what the entry point of its name does. It is
 - an entry point has no such theorem, or has a `requires`;
 - its FACT does not name the answer, or, of a parameter that is lent by `&mut`, what is left there: `PARAMETER.exit.now`; or says that something
   is itself;
+- an entry point, or an impl of a part, is generic in a type, which could hold a `&mut` that no parameter shows;
+- an impl of a trait in a part has no ghost clause: its functions, which have no `pub` and so no promise, are told by that alone;
 - another crate has a public function and INNER does not name it;
 - INNER or INNER_FUNCTIONS name a crate or a function that has no need of it: it is not there, or it is promised;
 - a function for C stands in no static library; a static library has anything but imports and exports; its exports are not of one part, or not all
@@ -41,7 +43,7 @@ INNER = {
     "local": "a zone's own rules, which the zone part and the site engine share",
     "opening": "a run from its terms, which the site engine and the reader share",
     "programs": "what the programs do, each of which is one call of it",
-    "questions": "questions that the zone part and the site engine ask alike",
+    "questions": "questions that the zone part and the site engine ask alike. `Refusal::number` a buyer may call: it says what `number_of` says",
     "run": "a run's head and its calls, which every crate of the site engine shares",
     "same": "the comparison of two runs, which the writer makes",
     "scan": "the questions on a whole run, which the site engine, the reader and the writer ask",
@@ -63,6 +65,7 @@ LENT = re.compile(r"&\s*(?:'\w+\s+)?mut\b")
 LITERAL = re.compile(r'"(?:\\.|[^"\\\n])*"|b\'(?:\\.[^\']*|[^\'\\])\'|//[^\n]*')
 FUNCTION = re.compile(r'\bpub\b\s*(?:\([^)]*\)\s*)?((?:(?:const|unsafe|extern|"\w*")\s+)*)fn\s+(\w+)')
 SCOPE = re.compile(r"\b(?:impl\b(?:\s*<[^>]*>)?|mod)\s+(\w+)[^;{]*\{")
+IMPL = re.compile(r"^impl\b([^{;]*)\{", re.M)
 TYPE = re.compile(r"\b(?:struct|enum|type)\s+(\w+)[^;{]*(?:\{[^}]*\}|;)")
 ANSWER = re.compile(r"\s*->.*?(?=\brequires\b|\bensures\b|\bghost\b|\{)", re.S)
 CLAUSE = re.compile(r"\s*(\w+)\*?(?:\s+\w+:?)?\s*\{")
@@ -92,11 +95,16 @@ class Function(NamedTuple):
     head: str  # from the parameters to the clauses
 
 
+def is_arrow(text, i):
+    """Whether this character is the `>` of a `->`, which closes nothing."""
+    return text[i] == ">" and text[i - 1 : i] == "-"
+
+
 def closed(text, at):
     """The place behind the bracket that closes the one at this place."""
     depth = 0
     for i in range(at, len(text)):
-        depth += (text[i] == text[at]) - (text[i] == CLOSING[text[at]])
+        depth += (text[i] == text[at]) - (text[i] == CLOSING[text[at]] and not is_arrow(text, i))
         if depth == 0:
             return i + 1
     return len(text)
@@ -105,8 +113,8 @@ def closed(text, at):
 def split(text):
     """The parameters of a list: what stands between the commas outside brackets."""
     parts, depth = [""], 0
-    for c in text:
-        depth += (c in CLOSING) - (c in CLOSING.values())
+    for i, c in enumerate(text):
+        depth += (c in CLOSING) - (c in CLOSING.values() and not is_arrow(text, i))
         if c == "," and depth == 0:
             parts.append("")
         else:
@@ -239,6 +247,27 @@ def promised(wrong):
     return parts, found
 
 
+def has_types(text):
+    """Whether the <> at the start of a text has a name that is no lifetime."""
+    return text.startswith("<") and any(not n.startswith("'") for n in split(text[1 : closed(text, 0) - 1]))
+
+
+def is_generic(function):
+    """Whether a function is generic in a type: by a name in <>, or by a parameter's `impl`."""
+    return has_types(function.head) or any(re.search(r"\bimpl\b", p) for p in function.parameters)
+
+
+def untold(crate):
+    """The impls of a part that are generic in a type, and those of a trait that do not say what they give."""
+    for path, text in sources(crate):
+        for m in IMPL.finditer(text):
+            head = " ".join(m[0].rstrip("{").split())
+            if has_types(m[1].lstrip()):
+                yield f"{path.relative_to(ROOT)}: {head} is generic in a type, which could hold a `&mut` that no parameter shows"
+            if re.search(r"\bfor\b", m[1]) and not re.search(r"\bghost\s+\w+\s*=", text[m.end() : closed(text, m.end() - 1)]):
+                yield f"{path.relative_to(ROOT)}: {head} has no ghost clause"
+
+
 def unnamed(name, function, promise):
     """What the promise of a function leaves out."""
     where, names, fact = promise
@@ -281,9 +310,12 @@ def main():
     functions = {crate: public(crate, wrong) for crate in crates}
     points = {name: f for crate in crates if crate in parts for name, f in functions[crate].items()}
     wrong += misnamed(functions, parts, points, promises)
+    wrong += [what for crate in crates if crate in parts for what in untold(crate)]
     for name in [p for p in points if p not in INNER_FUNCTIONS]:
         if "requires" in points[name].clauses:
             wrong.append(f"{name} has a `requires`")
+        if is_generic(points[name]):
+            wrong.append(f"{name} is generic in a type, which could hold a `&mut` that no parameter shows")
         wrong += unnamed(name, points[name], promises[name]) if name in promises else [f"{name} has no promise"]
     for exports in [name for name, *kind in heads if "staticlib" in kind]:
         public(exports, wrong)
