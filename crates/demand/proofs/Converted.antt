@@ -22,9 +22,7 @@ use Rattle.run.specs.declared.SiteCall.TheVariants.{Send, Receive, Start, Gate}
 use Rattle.journal.specs.Format.{journal_bytes, has_kind, calls_in, record_words, opened_with}
 use Rattle.journal.specs.Reading.{terms_in, records_in, read_call}
 use Rattle.journal.specs.Writing.{Output, refused_output, written_output}
-use Rattle.journal.specs.Answers.{JournalWritten}
-use Rattle.journal.specs.Answers.{Reading}
-use Rattle.journal.specs.Answers.{Written}
+use Rattle.journal.specs.Answers.{JournalWritten, Reading, Written}
 use Rattle.journal.proofs.Accepted.{read-tells, read-replayed}
 use Rattle.journal.proofs.TrueRuns.{true-tells, true-length, true-read}
 use Rattle.journal.proofs.WrittenBack.{write_bytes}

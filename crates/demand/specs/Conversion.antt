@@ -7,8 +7,7 @@ use Rattle.rules.specs.Questions.{question, refusal}
 use Rattle.rules.specs.Site.{Call, send, receive, start, gate}
 use Rattle.run.specs.declared.Opening.{Opening}
 use Rattle.run.specs.declared.Run.{Run}
-use Rattle.journal.specs.Answers.{JournalWritten}
-use Rattle.journal.specs.Answers.{Reading}
+use Rattle.journal.specs.Answers.{JournalWritten, Reading}
 use Rattle.recording.specs.Shown.{shown_in}
 use Rattle.recording.specs.Answers.{Recorded}
 use Rattle.promises.specs.Answers.{ReadAnswers, RecordAnswers}

@@ -19,8 +19,7 @@ use Rattle.journal.specs.Answers.{Written}
 use Rattle.recording.specs.Call.{snapshot_of, recorded_total, record_call}
 use Rattle.recording.specs.Journal.{JournalOutput, output_of, unread_output, record_journal}
 use Rattle.recording.specs.Layout.{join_below, channel_words, item_words, recording_bytes}
-use Rattle.recording.specs.Answers.{JournalRecorded}
-use Rattle.recording.specs.Answers.{Recorded}
+use Rattle.recording.specs.Answers.{JournalRecorded, Recorded}
 use Rattle.recording.proofs.Asked.{accepted, refused-alike}
 use Rattle.recording.proofs.Bounds.{words-on}
 use Rattle.recording.proofs.Read.{read_whole}

@@ -11,9 +11,7 @@ use Rattle.recording.specs.Call.{record_call}
 use Rattle.recording.specs.Answers.{Recorded}
 use Rattle.journal.specs.Reading.{read_call}
 use Rattle.journal.specs.Writing.{write_call}
-use Rattle.journal.specs.Answers.{JournalWritten}
-use Rattle.journal.specs.Answers.{Reading}
-use Rattle.journal.specs.Answers.{Written}
+use Rattle.journal.specs.Answers.{JournalWritten, Reading, Written}
 use Rattle.page.specs.Call.{page_call}
 use Rattle.conversion.specs.Call.{convert_call}
 use Rattle.conversion.specs.declared.Conversion.{Conversion}

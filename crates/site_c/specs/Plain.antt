@@ -8,9 +8,8 @@ use Rattle.run.specs.Answer.{Answer}
 use Rattle.run.specs.declared.Run.{Run}
 use Rattle.journal.specs.Reading.{read_call}
 use Rattle.journal.specs.Writing.{Output, write_call}
-use Rattle.journal.specs.Answers.{JournalWritten}
+use Rattle.journal.specs.Answers.{JournalWritten, Written}
 use Rattle.page.specs.Call.{page_call}
-use Rattle.journal.specs.Answers.{Written}
 use Rattle.recording.specs.Call.{RecordOutput, record_call}
 use Rattle.site.specs.Lent.{run_in}
 use Rattle.zone_c.specs.Plain.{mark_of, kind_of, saved_of}
@@ -24,8 +23,7 @@ use Rattle.site_c.specs.declared.PlainWritten.{PlainWritten}
 use Rattle.run.specs.Calls.{answer}
 use Rattle.run.specs.Opening.{open_call, terms_as, opening_as}
 use Rattle.run.specs.declared.SiteCall.{SiteCall}
-use Rattle.recording.specs.Answers.{Recorded}
-use Rattle.recording.specs.Answers.{JournalRecorded}
+use Rattle.recording.specs.Answers.{Recorded, JournalRecorded}
 use Rattle.run.specs.declared.Head.{Head}
 
 abbrev pub local_of : PlainLocal → Local

@@ -12,8 +12,7 @@ use Rattle.rules.specs.Edition.{first_edition}
 use Rattle.rules.specs.Sets.{size}
 use Rattle.zone.specs.Zone.{open_zone, send_step, receive_step, request_step, start_step, gate_step, next_target}
 use Rattle.zone.specs.declared.Zone.{Zone}
-use Rattle.zone.specs.Answer.{StepAnswer}
-use Rattle.zone.specs.Answer.{OpeningAnswer}
+use Rattle.zone.specs.Answer.{StepAnswer, OpeningAnswer}
 use Rattle.zone.proofs.Checks.{after_checks, checks-kept}
 use Rattle.zone.proofs.Computed.{zone_computed}
 

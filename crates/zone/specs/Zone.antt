@@ -12,8 +12,7 @@ use Rattle.rules.specs.declared.Local.{Local}
 use Rattle.local.specs.Requesting.{requested_by, started_by}
 use Rattle.local.specs.declared.Requesting.{Requesting}
 use Rattle.zone.specs.declared.Zone.{Zone}
-use Rattle.zone.specs.Answer.{StepAnswer}
-use Rattle.zone.specs.Answer.{OpeningAnswer}
+use Rattle.zone.specs.Answer.{StepAnswer, OpeningAnswer}
 
 -- The zone's local state, of which the rules speak, and the zone with another one.
 abbrev pub local_of : Zone → Local
