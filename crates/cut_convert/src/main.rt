@@ -11,7 +11,7 @@ ghost use Rattle.cut_convert.specs.Converted.{Made};
 
 use conversion::Conversion;
 use journal::JOURNAL_BYTES;
-use programs::Output;
+use programs::{Job, Output};
 
 // More than the longer name of a conversion has.
 const ARGUMENT_BYTES: usize = 16;
@@ -24,6 +24,15 @@ fn converted(conversion: Conversion, journal: &[u8], out: &mut [u8]) -> Output
     match converter::convert(conversion, journal, out) {
         Ok(written) => Output::Answer(written),
         Err(e) => Output::Aside(text::refused(e.refusal.number(), out)),
+    }
+}
+
+#[derive(Clone, Copy)]
+struct Convert(Conversion);
+
+impl Job for Convert {
+    fn make(&self, journal: &[u8], out: &mut [u8]) -> Output {
+        converted(self.0, journal, out)
     }
 }
 
@@ -40,7 +49,7 @@ fn main(rt: HostRuntime) {
         &mut rt.stdout(),
         &mut rt.stderr(),
         b"cut_convert",
+        &Convert(conversion),
         &mut out,
-        |journal, out| converted(conversion, journal, out),
     );
 }

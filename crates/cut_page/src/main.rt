@@ -3,7 +3,15 @@
 #![tactic(auto)]
 
 use page::PAGE_BYTES;
-use programs::Output;
+use programs::{Job, Output};
+
+struct Page;
+
+impl Job for Page {
+    fn make(&self, journal: &[u8], out: &mut [u8]) -> Output {
+        Output::Answer(report::page_text(journal, out))
+    }
+}
 
 fn main(rt: HostRuntime) {
     let mut out = [0u8; PAGE_BYTES];
@@ -12,7 +20,7 @@ fn main(rt: HostRuntime) {
         &mut rt.stdout(),
         &mut rt.stderr(),
         b"cut_page",
+        &Page,
         &mut out,
-        |journal, out| Output::Answer(report::page_text(journal, out)),
     );
 }

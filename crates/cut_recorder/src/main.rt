@@ -2,8 +2,16 @@
 
 #![tactic(auto)]
 
-use programs::Output;
+use programs::{Job, Output};
 use report::TEXT_BYTES;
+
+struct Record;
+
+impl Job for Record {
+    fn make(&self, journal: &[u8], out: &mut [u8]) -> Output {
+        Output::Answer(report::report(journal, out))
+    }
+}
 
 fn main(rt: HostRuntime) {
     let mut out = [0u8; TEXT_BYTES];
@@ -12,7 +20,7 @@ fn main(rt: HostRuntime) {
         &mut rt.stdout(),
         &mut rt.stderr(),
         b"cut_recorder",
+        &Record,
         &mut out,
-        |journal, out| Output::Answer(report::report(journal, out)),
     );
 }

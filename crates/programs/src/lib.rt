@@ -17,24 +17,28 @@ pub enum Output {
     Aside(usize),
 }
 
-// The whole run of the program of this name, with a journal's bytes as far as its text depends on them, bytes lent that are enough for its answer,
-// and what it makes of the journal there. Where the input could not be read, which `console::read` says, nothing is written.
-pub fn run<F: FnOnce(&[u8], &mut [u8]) -> Output>(
+// What a program makes of a journal.
+pub trait Job {
+    // It stands at the front of the lent bytes, which are enough for it.
+    fn make(&self, journal: &[u8], out: &mut [u8]) -> Output
+        ensures { bytes_of result ≤ length out.new };
+}
+
+// The whole run of the program of this name, with a journal's bytes as far as its text depends on them, and bytes lent that are enough for its
+// answer. Where the input could not be read, which `console::read` says, nothing is written.
+pub fn run(
     input: &mut impl Read,
     output: &mut impl Write,
     errors: &mut impl Write,
     program: &[u8],
+    job: &impl Job,
     out: &mut [u8],
-    make: F,
-)
-    requires callable { F.IsAlwaysCallable make }
-    requires within { (journal lent after : _) (made : Output) → F.post make journal lent made after → bytes_of made ≤ length after.now }
-{
+) {
     let mut space = [0u8; SEEN_BYTES];
     let Ok(n) = console::read(input, errors, program, &mut space) else {
         return;
     };
-    match make(&space[..n], out) {
+    match job.make(&space[..n], out) {
         Output::Answer(m) => console::write(output, errors, program, &out[..m]),
         Output::Aside(m) => console::say(errors, &out[..m]),
     }
