@@ -1,4 +1,4 @@
-// The text that the programs print, written to lent bytes: bytes as digits, refusals, numbers in columns.
+// The text that the programs print, written to lent bytes: bytes as digits, refusals, numbers in columns; and whether two texts are the same.
 // Where the bytes that are lent for a text are too few nothing is written, and the answer is 0.
 
 #![tactic(auto)]
@@ -7,6 +7,7 @@ ghost use Rattle.std.specs.Prelude.{◌≡◌, ◌+◌, ◌<◌, ◌≤◌, leng
 ghost use Rattle.std.proofs.lemmas.List.Edits.{sets};
 ghost use Rattle.text.specs.Text.{digit_code, bytes_text, decimal_text, column_text, refused_word, refused_text, Prints};
 ghost use Rattle.text.specs.InnerColumn.{place_code};
+ghost use Rattle.words.specs.Bytes.{same_words};
 
 // The character of a digit.
 #[tactic(auto, unfolding(crate::specs::Text::digit_code))]
@@ -96,4 +97,11 @@ pub fn refused(n: u8, out: &mut [u8]) -> usize
     column(n as u32, &mut out[8..last]);
     out[last] = b'\n';
     last + 1
+}
+
+// Whether two texts are the same.
+pub fn same(a: &[u8], b: &[u8]) -> bool
+    ensures { result ≡ same_words a.now b.now }
+{
+    a == b
 }
