@@ -2,7 +2,7 @@
 use mathlib.Core.Path.{◌≡◌, refl, ap, ◌∙◌}
 use mathlib.Core.Bool.{Bool, true, false}
 use mathlib.Core.List.{List, [], ◌∷◌, ◌++◌, append_assoc}
-use Prim.Native.Nat.{ℕ, zero, suc, ◌+◌, ◌<◌}
+use Prim.Native.Nat.{ℕ, zero, suc, ◌+◌, ◌-◌, ◌<◌}
 use native.Mathlib.Numerals.{add-one}
 use native.Mathlib.Omega.{arith}
 use lib.Dec.{ltb}
@@ -27,6 +27,20 @@ down-copied xs j (suc n) h =
     down-copied (set xs j y) (suc j) n k
     ∙ rw (take-suc-set xs j y b, drop-set-lt (suc j + 1) xs j y (omega arith), drop-set-lt (suc j + n) xs j y (omega arith), e, f)
     (ap (λ (r : List ℕ). r ++ drop (suc j + n) xs) (append_assoc (take j xs) (y ∷ []) (take n zs)))
+
+-- The same one place after another.
+pub down-more : (xs : List ℕ) (j i n : ℕ) → i < n
+    → moved_down (set xs (j + i) (get_or xs (j + i + 1) 0)) (j + (i + 1)) (n - (i + 1)) ≡ moved_down xs (j + i) (n - i)
+unfolding moved_down
+down-more xs j i n h =
+    let e : n - i ≡ suc (n - (i + 1)) = omega arith in
+    let f : j + (i + 1) ≡ suc (j + i) = omega arith in
+    let g : j + i + 1 ≡ suc (j + i) = omega arith in
+    rw (e, f, g)
+
+pub down-none : (xs : List ℕ) (j : ℕ) → moved_down xs j 0 ≡ xs
+unfolding moved_down
+down-none xs j = refl
 
 -- Where a list holds something other than 0, it has a place.
 pub has-place : (xs : List ℕ) (k : ℕ) → 0 < get_or xs k 0 → k < length xs

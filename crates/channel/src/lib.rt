@@ -62,15 +62,12 @@ impl<'a> LentChannels<'a> {
         &items[at..at + looked_at(self.lens[k])]
     }
 
-    // Whether no channel from a zone holds an item: one test of eight bytes spares eight of a channel. Scan and same call it
-    // for a zone of a site.
+    // Whether no channel from a zone holds an item. Scan and same call it for a zone of a site.
     pub fn is_empty_from(self, from: usize) -> bool
         requires { from < most_zones }
         ensures { result ≡ all_empty self.entry.lens.now from }
     {
-        let lens = self.lens;
-        let (rows, _) = lens.as_chunks::<ZONES>();
-        rows[from] == [0; ZONES]
+        all_empty(self.lens, from)
     }
 }
 
@@ -108,6 +105,15 @@ pub fn is_channel(count: u8, k: usize) -> bool
     let b = k % ZONES < count as usize;
     let c = k / ZONES != k % ZONES;
     a & b & c
+}
+
+// Whether no channel from a zone holds an item, by the lengths alone: one test of eight bytes spares eight of a channel.
+pub fn all_empty(lens: &[u8; CHANNELS], from: usize) -> bool
+    requires { from < most_zones }
+    ensures { result ≡ all_empty lens.now from }
+{
+    let (rows, _) = lens.as_chunks::<ZONES>();
+    rows[from] == [0; ZONES]
 }
 
 // The number of words that a channel of this length has: no more than its places.
