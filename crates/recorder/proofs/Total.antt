@@ -2,6 +2,7 @@
 use mathlib.Core.Path.{◌≡◌, refl, ap}
 use mathlib.Core.List.{List}
 use Prim.Native.Nat.{ℕ, zero, suc, ◌+◌, ◌*◌, ◌%◌, ◌<◌, ◌≤◌}
+use native.Mathlib.Numerals.{add-one}
 use native.Mathlib.Omega.{arith}
 use lib.ListN.{get_or}
 use Rattle.words.specs.Bytes.{word_at, words_from}
@@ -19,6 +20,14 @@ word-cars-more bytes at (suc n) =
     let h = word-cars-more bytes (at + 2) n in
     let e : at + 2 + 2 * n ≡ at + 2 * suc n = omega arith in
     let q = ap (λ (i : ℕ). word_at bytes i % 256) e in
+    omega arith
+
+pub cars-next : (bytes : List ℕ) (at k : ℕ) {cars : ℕ} → cars ≡ word_cars (words_from bytes at k) → get_or bytes (at + 2 * k + 1) 0 < 256
+    → cars + get_or bytes (at + 2 * k + 1) 0 ≡ word_cars (words_from bytes at (k + 1))
+cars-next bytes at k e h =
+    let q : word_at bytes (at + 2 * k) % 256 ≡ get_or bytes (at + 2 * k + 1) 0 = omega arith in
+    let m = word-cars-more bytes at k in
+    let p = ap (λ (n : ℕ). word_cars (words_from bytes at n)) (add-one k) in
     omega arith
 
 -- They are bytes.

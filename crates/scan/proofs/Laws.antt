@@ -2,11 +2,11 @@
 use mathlib.Core.Path.{◌≡◌, refl, sym, ◌∙◌, ap}
 use mathlib.Core.Bool.{Bool, true, false, ◌&&◌, ◌||◌, not, cond, and-true, and_assoc}
 use mathlib.Core.List.{List, [], ◌∷◌, map}
-use Prim.Native.Nat.{ℕ, zero, suc, ◌+◌, ◌-◌, ◌*◌, ◌^◌, ◌<◌, ◌≤◌}
+use Prim.Native.Nat.{ℕ, zero, suc, ◌+◌, ◌-◌, ◌*◌, ◌^◌, ◌<◌, ◌≤◌, min}
 use native.Mathlib.Numerals.{add-one}
 use native.Mathlib.Omega.{arith}
 use borrow.Author.Tests.{lt-ltb, le-ltb, ltb-true, ltb-false}
-use lib.Dec.{ltb}
+use lib.Dec.{leb, ltb}
 use lib.ListN.{length, get_or, take, drop, length-take}
 use lib.Pow.{pow_pos}
 use lib.Seq.{take_all, get_or-take}
@@ -16,9 +16,9 @@ use Rattle.rules.proofs.Tests.{below?}
 use mathlib.Core.Logic.{◌⊎◌, inl, inr}
 use Rattle.rules.specs.declared.Local.{Local}
 use Rattle.channel.specs.Words.{item_of, set_in, cars_in}
-use Rattle.channel.specs.Channels.{is_channel, channel_index, len_of, row, words_on}
+use Rattle.channel.specs.Channels.{is_channel, channel_index, len_of, row, words_on, items_on}
 use Rattle.channel.specs.declared.Channels.{Channels}
-use Rattle.channel.proofs.Indices.{no-channel, no-channel-to}
+use Rattle.channel.proofs.Indices.{word-at, all_words, no-channel, no-channel-to}
 use Rattle.run.specs.State.{count_of, locals, no_local, zone_at, sets_within, cars_of, channel_sound}
 use Rattle.run.specs.declared.Head.{Head}
 use Rattle.run.specs.declared.Terms.{Terms}
@@ -73,6 +73,27 @@ sets-next count ws i b s t e f = rw (add-one i, sets_more count ws i, e, f) (and
 pub cars-next : (ws : List ℕ) (i n m : ℕ) → n ≡ cars_of (map item_of (take i ws)) → m ≡ cars_in (item_of (get_or ws i 0))
     → n + m ≡ cars_of (map item_of (take (i + 1) ws))
 cars-next ws i n m e f = rw (add-one i, cars-more ws i, e, f)
+
+-- The same of a channel's word, by its place among those of all channels.
+module _ (l : Channels) (k p : ℕ) (h : p < min (len_of l k) 16) where
+  pub sound-item : (count : ℕ) (b s t : Bool) → s ≡ b && sets_within count (map item_of (take p (words_on l k)))
+      → t ≡ within (set_in (item_of (get_or l.items (k * 16 + p) 0))) count
+      → s && t ≡ b && sets_within count (map item_of (take (p + 1) (words_on l k)))
+  sound-item count b s t e f = rw (add-one p, sets_more count (words_on l k) p, word-at l k p h, e, f) (and_assoc b _ _)
+
+  pub cars-item : (n m : ℕ) → n ≡ cars_of (map item_of (take p (words_on l k))) → m ≡ cars_in (item_of (get_or l.items (k * 16 + p) 0))
+      → n + m ≡ cars_of (map item_of (take (p + 1) (words_on l k)))
+  cars-item n m e f = rw (add-one p, cars-more (words_on l k) p, word-at l k p h, e, f)
+
+-- All of them, after as many as there are.
+pub sound-items : (t : Terms) (l : Channels) (k p : ℕ) → p ≡ min (len_of l k) 16 → (s : Bool)
+    → s ≡ leb (len_of l k) 16 && sets_within t.count (map item_of (take p (words_on l k))) → s ≡ channel_sound t l k
+unfolding channel_sound
+sound-items t l k p e s f = f ∙ rw (e, all_words l k)
+
+pub cars-items : (l : Channels) (k p : ℕ) → p ≡ min (len_of l k) 16 → (n : ℕ) → n ≡ cars_of (map item_of (take p (words_on l k)))
+    → n ≡ cars_of (items_on l k)
+cars-items l k p e n f = f ∙ rw (e, all_words l k)
 
 -- Once all words are looked at, they are the words of the channel.
 pub words_all : (ws vs : List ℕ) (i : ℕ) → ws ≡ vs → length ws ≤ i → take i ws ≡ vs
