@@ -46,7 +46,7 @@ pub fn page_text(journal: &[u8], out: &mut [u8]) -> usize
 {
     match pager::page_journal(journal, out) {
         Ok(written) => written,
-        Err(e) => refused(e, out),
+        Err(why) => refused(why, out),
     }
 }
 

@@ -12,4 +12,4 @@ returns-in-Ok c =
 
 pub returns-in-Err : goal.returns-in-Err
 returns-in-Err c =
-    refused-printed _ _ (journal_answer (Err c.in-Err.e)) c.in-Err.ensures.0 _ _ _ c.in-Err.ensures.1 (number-nonzero _) c.refused.ensures
+    refused-printed _ _ (journal_answer (Err c.in-Err.why)) c.in-Err.ensures.0 _ _ _ c.in-Err.ensures.1 (number-nonzero _) c.refused.ensures
