@@ -257,10 +257,13 @@ pub fn cut_zone_start(p: PlainZone) -> PlainStep
     }
 }
 
-// Cars drive in from the street.
+// Cars drive in from the street. A mark kind above 2 is refused first, here and of an exit, for speed alone: `try_from` asks it too.
 pub fn cut_zone_enter(p: PlainZone, cars: u8) -> PlainStep
     ensures { result ≡ gate_plain p In cars }
 {
+    if 2 < p.mark {
+        return refused(p, Refusal::Unsound);
+    }
     match Zone::try_from(p) {
         Ok(zone) => answer(p, zone.enter(cars)),
         Err(refusal) => refused(p, refusal),
@@ -271,6 +274,9 @@ pub fn cut_zone_enter(p: PlainZone, cars: u8) -> PlainStep
 pub fn cut_zone_leave(p: PlainZone, cars: u8) -> PlainStep
     ensures { result ≡ gate_plain p Out cars }
 {
+    if 2 < p.mark {
+        return refused(p, Refusal::Unsound);
+    }
     match Zone::try_from(p) {
         Ok(zone) => answer(p, zone.leave(cars)),
         Err(refusal) => refused(p, refusal),
