@@ -217,10 +217,15 @@ pub fn cut_zone_open(edition: u8, count: u8, number: u8, stock: u16) -> PlainOpe
     }
 }
 
+// Each of the six steps refuses a mark kind above 2 first, for speed alone: `try_from` asks it too.
+
 // A message ("hand-over") of some cars is sent to another zone.
 pub fn cut_zone_send(p: PlainZone, to: u8, cars: u8) -> PlainStep
     ensures { result ≡ send_plain p to cars }
 {
+    if 2 < p.mark {
+        return refused(p, Refusal::Unsound);
+    }
     match Zone::try_from(p) {
         Ok(zone) => answer(p, zone.send(to, cars)),
         Err(refusal) => refused(p, refusal),
@@ -231,6 +236,9 @@ pub fn cut_zone_send(p: PlainZone, to: u8, cars: u8) -> PlainStep
 pub fn cut_zone_receive(p: PlainZone, from: u8, cars: u8, flag: u8) -> PlainStep
     ensures { result ≡ receive_plain p from cars flag }
 {
+    if 2 < p.mark {
+        return refused(p, Refusal::Unsound);
+    }
     match Zone::try_from(p) {
         Ok(zone) => answer(p, zone.receive(from, cars, flag != 0)),
         Err(refusal) => refused(p, refusal),
@@ -241,6 +249,9 @@ pub fn cut_zone_receive(p: PlainZone, from: u8, cars: u8, flag: u8) -> PlainStep
 pub fn cut_zone_request(p: PlainZone, set: u8) -> PlainStep
     ensures { result ≡ request_plain p set }
 {
+    if 2 < p.mark {
+        return refused(p, Refusal::Unsound);
+    }
     match Zone::try_from(p) {
         Ok(zone) => answer(p, zone.request(set)),
         Err(refusal) => refused(p, refusal),
@@ -251,13 +262,16 @@ pub fn cut_zone_request(p: PlainZone, set: u8) -> PlainStep
 pub fn cut_zone_start(p: PlainZone) -> PlainStep
     ensures { result ≡ start_plain p }
 {
+    if 2 < p.mark {
+        return refused(p, Refusal::Unsound);
+    }
     match Zone::try_from(p) {
         Ok(zone) => answer(p, zone.start()),
         Err(refusal) => refused(p, refusal),
     }
 }
 
-// Cars drive in from the street. A mark kind above 2 is refused first, here and of an exit, for speed alone: `try_from` asks it too.
+// Cars drive in from the street.
 pub fn cut_zone_enter(p: PlainZone, cars: u8) -> PlainStep
     ensures { result ≡ gate_plain p In cars }
 {
